@@ -1,0 +1,5 @@
+pub mod States
+pub mod Sends
+pub mod Encoding
+pub mod Interleaving
+pub mod Determined

@@ -1,0 +1,4 @@
+pub mod Coder
+pub mod Puncturing
+pub mod Encoding
+pub mod Interleaver

@@ -1,0 +1,4 @@
+pub mod coder;
+pub mod encoder;
+pub mod interleaver;
+pub mod puncturing;

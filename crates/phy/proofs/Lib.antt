@@ -1,0 +1,5 @@
+pub mod Shapes
+pub mod Slices
+pub mod Making
+pub mod Stepping
+pub mod Tells

@@ -1,0 +1,5 @@
+pub mod Fault
+pub mod Symbols
+pub mod Writing
+pub mod Sends
+pub mod Telling

@@ -1,0 +1,4 @@
+pub mod fault;
+pub mod sending;
+pub mod symbol;
+pub mod telling;
