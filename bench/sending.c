@@ -100,7 +100,7 @@ static size_t data_symbols(const struct mode *mode, size_t length)
 
 /* The scrambled data bits of the next symbol, the tail left zero. Four bits
  * go at once: the first four keys need only the seven bits already there,
- * and every part but the tail starts and ends on a multiple of four. */
+ * and a symbol, a byte and the tail start at a multiple of four. */
 static void take_data_bits(struct sender *restrict sender, uint8_t *restrict data)
 {
     size_t tail = SERVICE_BITS + sender->message_bits;
@@ -280,7 +280,7 @@ static void check_sums(uint32_t rate)
     if (proved == plain)
         return;
     printf("rate %u: the sums differ, proved %.0f, plain C %.0f\n", (unsigned)rate, (double)proved,
-           (unsigned)plain);
+           (double)plain);
     exit(1);
 }
 

@@ -1,6 +1,6 @@
 /* Sender of IEEE 802.11a-1999 (clause 17) frames, from message bytes to
- * carrier points. Whole frames only: every stage runs over the whole frame
- * before the next one starts. */
+ * carrier points. Whole frames only: the bits are made, scrambled, coded and
+ * punctured over the whole frame; then each symbol is interleaved and mapped. */
 #ifndef REFERENCE_SENDER_H
 #define REFERENCE_SENDER_H
 

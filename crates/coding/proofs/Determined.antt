@@ -1,19 +1,18 @@
--- Coded bits determine the bits: at every step the puncturing sends A or B, and both tap the newest bit.
-use mathlib.Core.Path.{_≡_, refl, sym, ap, ap₂, _∙_, subst}
-use mathlib.Core.Bool.{Bool, true, false, not, cond, _&&_, Bool·beq}
+-- Coded bits determine the bits: at every step the puncturing sent-of A or B, and both tap the newest bit.
+use mathlib.Core.Path.{_≡_, refl, sym, ap₂, subst}
+use mathlib.Core.Bool.{Bool, true, false, not, _&&_, Bool·beq}
 use mathlib.Core.List.{List, [], _∷_, _++_}
 use mathlib.Core.Logic.{_⊎_, inl, inr}
 use Prim.Native.Nat.{ℕ, zero, suc, _+_, _%_, _<_}
 use native.Mathlib.Omega.{arith}
 use lib.Count.{ones, onesIn}
-use lib.Dec.{lit<}
 use lib.ListN.{length, getD}
 use Rattle.std.proofs.shelf.Tests.{and-parts, true≢false}
 use Rattle.frame.specs.declared.rate.CodeRate.{CodeRate}
 use Rattle.frame.specs.declared.rate.CodeRate.the-variants as C
 use Rattle.frame.proofs.Tables.{every-below, at-below}
 use Rattle.coding.specs.Coder.{next-state, tapped, outputs, coded-from}
-use Rattle.coding.specs.Puncturing.{pattern, sends, kept, punctured-from}
+use Rattle.coding.specs.Puncturing.{pattern, sent-of, kept, punctured-from}
 use Rattle.coding.proofs.States.{next-below}
 
 -- in every state the two bits give another A and another B
@@ -42,7 +41,7 @@ one-bit s true false h e = absurd (never s h e)
 one-bit s false true h e = absurd (never s h (elim e [ inl a ↦ inl (sym a) | inr b ↦ inr (sym b) ]))
 one-bit s false false h e = refl
 
--- a pattern that sends A or B at each step
+-- a pattern that sent-of A or B at each step
 abbrev pub Sends-some : (ℕ → Bool × Bool) → Type 0
 Sends-some send = (i : ℕ) → (send i .0 ≡ true) ⊎ (send i .1 ≡ true)
 
@@ -57,11 +56,11 @@ some-of C.ThreeQuarters (suc zero) h = inl refl
 some-of C.ThreeQuarters (suc (suc zero)) h = inr refl
 some-of C.ThreeQuarters (suc (suc (suc i))) h = absurd (omega arith)
 
-pub sends-some : (c : CodeRate) → Sends-some (sends c)
-unfolding sends
-sends-some C.Half i = some-of C.Half (i % 1) (omega arith)
-sends-some C.TwoThirds i = some-of C.TwoThirds (i % 2) (omega arith)
-sends-some C.ThreeQuarters i = some-of C.ThreeQuarters (i % 3) (omega arith)
+pub sent-some : (c : CodeRate) → Sends-some (sent-of c)
+unfolding sent-of
+sent-some C.Half i = some-of C.Half (i % 1) (omega arith)
+sent-some C.TwoThirds i = some-of C.TwoThirds (i % 2) (omega arith)
+sent-some C.ThreeQuarters i = some-of C.ThreeQuarters (i % 3) (omega arith)
 
 -- what is sent first of two pairs is the same
 first-kept : (a b : Bool) (x y : Bool × Bool) (r t : List Bool) → (a ≡ true) ⊎ (b ≡ true) → kept (a, b) x ++ r ≡ kept (a, b) y ++ t → (x .0 ≡ y .0) ⊎ (x .1 ≡ y .1)

@@ -2,8 +2,7 @@
 use mathlib.Core.Path.{_≡_, refl, sym, ap, ap₂, _∙_}
 use mathlib.Core.Bool.{Bool, false, cond}
 use mathlib.Core.List.{List, [], _∷_, _++_}
-use Prim.Native.Nat.{ℕ, zero, suc, _+_, _*_, _/_, _%_, _≤_, _<_}
-use native.Mathlib.Nat.{div-add-mod, mul-comm, mul-le-mul-right, suc-mul}
+use Prim.Native.Nat.{ℕ, zero, suc, _+_, _*_, _%_, _≤_, _<_}
 use native.Mathlib.Omega.{arith}
 use lib.ListN.{length, getD, take}
 use Rattle.frame.specs.Bits.{bit-of, bit-at}
@@ -11,10 +10,10 @@ use Rattle.std.proofs.shelf.Lists.{append-assoc, take-more, take-all, length-ta
 use Rattle.frame.specs.declared.rate.CodeRate.{CodeRate}
 use Rattle.frame.specs.declared.rate.CodeRate.the-variants as C
 use Rattle.coding.specs.Coder.{next-state, outputs, coded-from, state-from}
-use Rattle.coding.specs.Puncturing.{sends, kept, punctured, sent-count}
+use Rattle.coding.specs.Puncturing.{sent-of, kept, punctured, sent-count}
 use Rattle.coding.specs.Encoding.{Drawn, Put, Underway, Encoded}
 use Rattle.coding.proofs.States.{coded-append, state-append, length-coded}
-use Rattle.coding.proofs.Sends.{punctured-push, room, count-none, count-more, sends-again}
+use Rattle.coding.proofs.Punctured.{punctured-push, room, count-none, count-more, sent-again}
 
 state-more : (s held i held′ : ℕ) (bits : List Bool) → i < length bits → held ≡ state-from s (take i bits) → held′ ≡ next-state held (getD bits i false) → held′ ≡ state-from s (take (i + 1) bits)
 state-more s held i held′ bits h e f =
@@ -22,7 +21,7 @@ state-more s held i held′ bits h e f =
     f ∙ ap (λ (z : ℕ). next-state z b) e ∙ sym (state-append s (take i bits) (b ∷ [])) ∙ ap (state-from s) (sym (take-more bits i false h))
 
 punctured-more : (c : CodeRate) (s held i : ℕ) (bits xs ys zs : List Bool) (pair send : Bool × Bool) → i < length bits →
-    held ≡ state-from s (take i bits) → pair ≡ outputs held (getD bits i false) → send ≡ sends c i →
+    held ≡ state-from s (take i bits) → pair ≡ outputs held (getD bits i false) → send ≡ sent-of c i →
     ys ≡ xs ++ cond (send .0) (pair .0 ∷ []) [] → zs ≡ ys ++ cond (send .1) (pair .1 ∷ []) [] →
     xs ≡ punctured c (coded-from s (take i bits)) → zs ≡ punctured c (coded-from s (take (i + 1) bits))
 punctured-more c s held i bits xs ys zs pair send h e p k y z x =
@@ -32,13 +31,13 @@ punctured-more c s held i bits xs ys zs pair send h e p k y z x =
     z ∙ ap (λ (q : List Bool). q ++ cond (send .1) (pair .1 ∷ []) []) y
     ∙ append-assoc xs (cond (send .0) (pair .0 ∷ []) []) (cond (send .1) (pair .1 ∷ []) [])
     ∙ ap₂ (λ (q : List Bool) (v : List Bool). q ++ v) x (ap₂ kept k (p ∙ ap (λ (v : ℕ). outputs v b) e))
-    ∙ sym (punctured-push (sends c) i (coded-from s front) (outputs (state-from s front) b) n)
+    ∙ sym (punctured-push (sent-of c) i (coded-from s front) (outputs (state-from s front) b) n)
     ∙ ap (punctured c) (sym (coded-append s front (b ∷ [])))
     ∙ ap (λ (q : List Bool). punctured c (coded-from s q)) (sym (take-more bits i false h))
 
 -- one bit more, and all of them
 module _ (bits : List Bool) (c : CodeRate) (before i held place : ℕ) (out : List Bool) (u : Underway bits c before i held place out) where
-  pub underway-more : (at at′ held′ : ℕ) (mid out′ : List Bool) (pair send : Bool × Bool) → i < length bits → send ≡ sends c i → pair ≡ outputs held (getD bits i false) →
+  pub underway-more : (at at′ held′ : ℕ) (mid out′ : List Bool) (pair send : Bool × Bool) → i < length bits → send ≡ sent-of c i → pair ≡ outputs held (getD bits i false) →
       Put out place (send .0) (pair .0) at mid → Put mid at (send .1) (pair .1) at′ out′ → length out′ ≡ length out →
       held′ ≡ next-state held (getD bits i false) → held′ < 64 → Underway bits c before (i + 1) held′ at′ out′
   underway-more at at′ held′ mid out′ pair send h k p A B l n six =
@@ -52,7 +51,7 @@ module _ (bits : List Bool) (c : CodeRate) (before i held place : ℕ) (out : Li
       }
 
   -- both bits of the next pair find room, if they are sent
-  pub room-for : (send : Bool × Bool) → i < length bits → send ≡ sends c i → place + (bit-of (send .0) + bit-of (send .1)) ≤ length out
+  pub room-for : (send : Bool × Bool) → i < length bits → send ≡ sent-of c i → place + (bit-of (send .0) + bit-of (send .1)) ≤ length out
   room-for send h k = omega (arith, room c i (length bits) (length out) send h (u .room) k, u .counted)
 
   pub all-encoded : i ≡ length bits → Encoded bits c before held out
@@ -69,38 +68,34 @@ pub underway-none : (bits : List Bool) (c : CodeRate) (before : ℕ) (out : List
 underway-none bits c before out h e = record { six-bits = h; room = e; counted = sym (count-none c); left = refl; written = refl }
 
 -- the pattern's marks at a pair of any period
-pub drawn-at : (c : CodeRate) (period a b first t : ℕ) → Drawn c period a b → first % period ≡ 0 → t < period → _≡_ {A = Bool × Bool} (bit-at a t, bit-at b t) (sends c (first + t))
+pub drawn-at : (c : CodeRate) (period a b first t : ℕ) → Drawn c period a b → first % period ≡ 0 → t < period → _≡_ {A = Bool × Bool} (bit-at a t, bit-at b t) (sent-of c (first + t))
 drawn-at c period a b first t d whole h =
-    let again = sends-again c first (ap (λ (p : ℕ). first % p) (sym (d .long)) ∙ whole) 1 t in
-    d .marks t h ∙ sym again ∙ ap (sends c) (let z : 1 * first + t ≡ first + t = omega arith in z)
-
--- period k lies within the bits
-pub period-fits : (n p k : ℕ) → 0 < p → k < n / p → k * p + p ≤ n
-period-fits n p k h l = omega (arith, div-add-mod n p, mul-comm p (n / p), mul-le-mul-right {m = suc k} {n = n / p} p l, suc-mul k p)
+    let again = sent-again c first (ap (λ (p : ℕ). first % p) (sym (d .long)) ∙ whole) 1 t in
+    d .marks t h ∙ sym again ∙ ap (sent-of c) (let z : 1 * first + t ≡ first + t = omega arith in z)
 
 -- the three patterns
 pub drawn-half : Drawn C.Half 1 0b1 0b1
-unfolding sends
+unfolding sent-of
 drawn-half = record { long = refl; short = omega arith; some = omega arith; marks = at }
   where
-    at : (t : ℕ) → t < 1 → _≡_ {A = Bool × Bool} (bit-at 0b1 t, bit-at 0b1 t) (sends C.Half t)
+    at : (t : ℕ) → t < 1 → _≡_ {A = Bool × Bool} (bit-at 0b1 t, bit-at 0b1 t) (sent-of C.Half t)
     at zero h = refl
     at (suc t) h = absurd (omega arith)
 
 pub drawn-two-thirds : Drawn C.TwoThirds 2 0b11 0b01
-unfolding sends
+unfolding sent-of
 drawn-two-thirds = record { long = refl; short = omega arith; some = omega arith; marks = at }
   where
-    at : (t : ℕ) → t < 2 → _≡_ {A = Bool × Bool} (bit-at 0b11 t, bit-at 0b01 t) (sends C.TwoThirds t)
+    at : (t : ℕ) → t < 2 → _≡_ {A = Bool × Bool} (bit-at 0b11 t, bit-at 0b01 t) (sent-of C.TwoThirds t)
     at zero h = refl
     at (suc zero) h = refl
     at (suc (suc t)) h = absurd (omega arith)
 
 pub drawn-three-quarters : Drawn C.ThreeQuarters 3 0b011 0b101
-unfolding sends
+unfolding sent-of
 drawn-three-quarters = record { long = refl; short = omega arith; some = omega arith; marks = at }
   where
-    at : (t : ℕ) → t < 3 → _≡_ {A = Bool × Bool} (bit-at 0b011 t, bit-at 0b101 t) (sends C.ThreeQuarters t)
+    at : (t : ℕ) → t < 3 → _≡_ {A = Bool × Bool} (bit-at 0b011 t, bit-at 0b101 t) (sent-of C.ThreeQuarters t)
     at zero h = refl
     at (suc zero) h = refl
     at (suc (suc zero)) h = refl

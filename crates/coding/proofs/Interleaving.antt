@@ -1,7 +1,7 @@
 -- The interleaver's permutations and their inverses, over every grid: s is the turn, t the groups of a column.
 use mathlib.Core.Path.{_≡_, refl, sym, ap, ap₂, _∙_, subst}
-use Prim.Native.Nat.{ℕ, zero, suc, _+_, _-_, _*_, _/_, _%_, _≤_, _<_}
-use native.Mathlib.Nat.{add-assoc, mul-suc, add-mod-mod, mul-le-mul-right, mul-add-div, mod-eq-sub-mod, mul-comm, mul-assoc, mul-left-comm, mul-add, add-mul, mul-pos, mul-div-mul-left, mul-div-cancel-left, div-div-eq-div-mul, mod-add-mod, mul-add-mod-self-left, add-mul-mod-self-left, mod-lt, mod-eq-of-lt, div-add-mod, sub-add-cancel, mul-le-mul-left}
+use Prim.Native.Nat.{ℕ, suc, _+_, _-_, _*_, _/_, _%_, _≤_, _<_}
+use native.Mathlib.Nat.{add-assoc, mul-suc, add-mod-mod, mul-le-mul-right, mul-add-div, mod-eq-sub-mod, mul-comm, mul-assoc, mul-left-comm, mul-add, add-mul, mul-pos, mul-div-mul-left, mul-div-cancel-left, div-div-eq-div-mul, mod-add-mod, mul-add-mod-self-left, add-mul-mod-self-left, mod-eq-of-lt, div-add-mod, sub-add-cancel, mul-le-mul-left}
 use native.Mathlib.Omega.{arith}
 use mathlib.Core.List.{List}
 use mathlib.Core.Logic.{inl, inr}
@@ -9,8 +9,8 @@ use lib.ListN.{length, getD, set}
 use lib.Seq.{getD-set-same, getD-set-other}
 use Rattle.std.proofs.shelf.Tests.{cases-eq}
 use Rattle.std.proofs.shelf.Counted.{fill-by-all, getD-map-counting}
-use Rattle.std.proofs.shelf.Lists.{ext-getD}
-use Rattle.std.proofs.shelf.Bits.{div-below, div-mul-add, mod-mul-add, mul-add-lt, mod-below}
+use Rattle.std.proofs.shelf.Lists.{ext-getD, getD-read}
+use Rattle.std.proofs.shelf.Bits.{div-below, div-mul-add, mul-add-lt, mod-below}
 use Rattle.coding.specs.Interleaver.{Grid, spread, turn, place, unturn, unspread, source, Inverse, Placed, Filled, interleaved}
 
 -- a group and a place in it
@@ -251,6 +251,10 @@ within columns s t n column group g hc hg =
       before = omega (arith, all);
       fits = omega (arith, whole, more, mul-suc s q);
     }
+
+-- an element that was read, at the place that the index stands for
+pub read-at : {X : Type 0} (xs : List X) (i k : ℕ) (x : X) → i < length xs → x ≡ getD xs i x → i ≡ k → (d : X) → x ≡ getD xs k d
+read-at xs i k x h e same d = getD-read xs i x h e d ∙ ap (λ (z : ℕ). getD xs z d) same
 
 -- one place more
 module _ {X : Type 0} (columns s : ℕ) (xs : List X) where

@@ -1,5 +1,5 @@
 pub mod States
-pub mod Sends
+pub mod Punctured
 pub mod Encoding
 pub mod Interleaving
 pub mod Determined

@@ -7,14 +7,14 @@ use lib.ListN.{length, take}
 use Rattle.frame.specs.declared.rate.CodeRate.{CodeRate}
 use Rattle.frame.specs.Bits.{bit-of, bit-at}
 use Rattle.coding.specs.Coder.{coded-from, state-from}
-use Rattle.coding.specs.Puncturing.{pattern, sends, punctured, sent-count}
+use Rattle.coding.specs.Puncturing.{pattern, sent-of, punctured, sent-count}
 
 -- the pattern of a coding rate as its period and two numbers, bit t of which says whether A, or B, is sent of pair t
 pub record Drawn (c : CodeRate) (period a b : ℕ) : Type 0 where
   pub long : period ≡ length (pattern c)
   pub short : period ≤ 8
   pub some : 0 < period
-  pub marks : (t : ℕ) → t < period → _≡_ {A = Bool × Bool} (bit-at a t, bit-at b t) (sends c t)
+  pub marks : (t : ℕ) → t < period → _≡_ {A = Bool × Bool} (bit-at a t, bit-at b t) (sent-of c t)
 
 -- a bit was written at `place` if it is sent, and r is the place after it
 pub record Put (out : List Bool) (place : ℕ) (send bit : Bool) (r : ℕ) (out′ : List Bool) : Type 0 where

@@ -36,7 +36,7 @@ unspread columns n i = columns * i - (n - 1) * (columns * i / n)
 unfoldable pub source : ℕ → ℕ → ℕ → ℕ → ℕ
 source columns n s j = unspread columns n (unturn columns n s j)
 
--- the coded bits of a symbol interleaved: place j holds the bit that goes there. d stands for none, and is never read
+-- the coded bits of a symbol interleaved: place j holds the bit that goes there. In a grid no place lacks one, so d is not read
 abbrev pub interleaved : {X : Type 0} → X → ℕ → ℕ → List X → List X
 interleaved d columns s xs = map (λ j. getD xs (source columns (length xs) s j) d) (counting 0 (length xs))
 

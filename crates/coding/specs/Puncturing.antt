@@ -14,8 +14,8 @@ pattern C.TwoThirds = (true, true) ∷ (true, false) ∷ []
 pattern C.ThreeQuarters = (true, true) ∷ (true, false) ∷ (false, true) ∷ []
 
 -- the same of pair i, the pattern repeating
-unfoldable pub sends : CodeRate → ℕ → Bool × Bool
-sends c i = getD (pattern c) (i % length (pattern c)) (true, true)
+unfoldable pub sent-of : CodeRate → ℕ → Bool × Bool
+sent-of c i = getD (pattern c) (i % length (pattern c)) (true, true)
 
 -- of one pair, what is sent
 abbrev pub kept : Bool × Bool → Bool × Bool → List Bool
@@ -27,9 +27,9 @@ punctured-from send i [] = []
 punctured-from send i (pair ∷ pairs) = kept (send i) pair ++ punctured-from send (i + 1) pairs
 
 abbrev pub punctured : CodeRate → List (Bool × Bool) → List Bool
-punctured c pairs = punctured-from (sends c) 0 pairs
+punctured c pairs = punctured-from (sent-of c) 0 pairs
 
 -- how many bits are sent of the first n pairs
 unfoldable pub sent-count : CodeRate → ℕ → ℕ
 sent-count c zero = 0
-sent-count c (suc n) = sent-count c n + (bit-of (sends c n .0) + bit-of (sends c n .1))
+sent-count c (suc n) = sent-count c n + (bit-of (sent-of c n .0) + bit-of (sent-of c n .1))

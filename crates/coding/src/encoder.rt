@@ -7,7 +7,7 @@ ghost use Rattle.coding.specs.Encoding.{Drawn, Underway, Encoded};
 use crate::coder::next_state;
 use crate::coder::outputs;
 use crate::puncturing::put;
-use crate::puncturing::sends;
+use crate::puncturing::sent_of;
 use frame::rate::CodeRate;
 
 // Codes one period of the pattern from `first` on, given the coder's state there and the place of the next bit that is
@@ -32,7 +32,7 @@ fn encode_period<const PERIOD: usize, const A: u8, const B: u8>(
     for t in 0..PERIOD {
         let bit = bits[first + t];
         let (a, b) = outputs(held, bit);
-        let (send_a, send_b) = sends::<A, B>(t);
+        let (send_a, send_b) = sent_of::<A, B>(t);
         at = put(out, at, send_a, a);
         at = put(out, at, send_b, b);
         held = next_state(held, bit);

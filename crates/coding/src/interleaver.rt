@@ -1,8 +1,9 @@
-// The interleaver of a symbol, over columns and widths: one function for every modulation.
+// The interleaver of a symbol, over columns and widths: one function for every modulation. A symbol's places are a grid:
+// COLUMNS columns, each of GROUPS groups of TURN places.
 ghost use mathlib.Core.Path.{_≡_};
-ghost use Prim.Native.Nat.{ℕ, _+_, _*_, _%_, _<_};
-ghost use lib.ListN.{length, getD};
-ghost use Rattle.coding.specs.Interleaver.{Grid, place, source, interleaved, turn-size, Undone, Placed, Filled};
+ghost use Prim.Native.Nat.{_+_, _*_, _%_, _<_};
+ghost use lib.ListN.{length};
+ghost use Rattle.coding.specs.Interleaver.{Grid, source, interleaved, turn-size, Undone, Placed, Filled};
 ghost use Rattle.frame.specs.Rate.{n-bpsc};
 use frame::rate::Modulation;
 
@@ -95,7 +96,8 @@ pub fn interleave<T: Copy, const COLUMNS: usize, const TURN: usize, const GROUPS
 pub fn interleave_symbol<T: Copy>(modulation: Modulation, from: &[T], to: &mut [T])
     requires { ⌜ length (now from) ≡ 48 * n-bpsc modulation ⌝ }
     requires { ⌜ length (now to) ≡ length (now from) ⌝ }
-    ensures { λ _. ⌜ ((d : T) → now (to .exit) ≡ interleaved d 16 (turn-size modulation) (now (from .entry))) ⌝ }
+    ensures value { λ _. ⌜ ((d : T) → now (to .exit) ≡ interleaved d 16 (turn-size modulation) (now (from .entry))) ⌝ }
+    ensures placed { λ _. ⌜ Placed 16 (turn-size modulation) (now (from .entry)) (now (to .exit)) ⌝ }
 {
     match modulation {
         Modulation::Bpsk => interleave::<T, 16, 1, 3>(from, to),

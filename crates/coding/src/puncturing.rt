@@ -7,7 +7,7 @@ ghost use Rattle.frame.specs.Bits.{bit-at};
 ghost use Rattle.coding.specs.Encoding.{Put};
 
 // Of pair `t` of a period, whether A is sent, and whether B is: a pattern is two numbers, bit t of each for pair t.
-pub fn sends<const A: u8, const B: u8>(t: usize) -> (bool, bool)
+pub(crate) fn sent_of<const A: u8, const B: u8>(t: usize) -> (bool, bool)
     requires { ⌜ t < 8 ⌝ }
     ensures { λ r. ⌜ r .0 ≡ bit-at A t ⌝ ∗ ⌜ r .1 ≡ bit-at B t ⌝ }
 {

@@ -20,9 +20,6 @@ odd-more bits i so-far h e =
 pub bit-true : (b : Bool) → b ≡ true → bit-of b ≡ 1
 bit-true b e = ap bit-of e
 
-pub bit-false : (b : Bool) → b ≡ false → bit-of b ≡ 0
-bit-false b e = ap bit-of e
-
 pub bit-small : (b : Bool) → bit-of b ≤ 1
 bit-small true = omega arith
 bit-small false = omega arith

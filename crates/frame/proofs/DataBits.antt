@@ -1,6 +1,6 @@
 -- One data bit, and a stretch of them.
 use mathlib.Core.Path.{_≡_, refl, sym, ap, ap₂, _∙_, subst}
-use mathlib.Core.Bool.{Bool, true, false, cond, _&&_}
+use mathlib.Core.Bool.{Bool, true, false, cond}
 use mathlib.Core.List.{List, _∷_, _++_}
 use mathlib.Core.Logic.{inl, inr}
 use Prim.Native.Nat.{ℕ, zero, suc, _+_, _-_, _*_, _/_, _%_, _^_, _<_, _≤_}
@@ -9,16 +9,15 @@ use native.Mathlib.Omega.{arith}
 use lib.Dec.{leb, ltb, eqb}
 use lib.ListN.{length, getD}
 use lib.Pow.{shr-shr}
-use Rattle.std.specs.Iters.{counting}
-use Rattle.std.proofs.shelf.Counted.{getD-map-counting, length-map-counting}
+use Rattle.std.proofs.shelf.Counted.{fill-by-all, getD-map-counting, length-map-counting}
 use Rattle.std.proofs.shelf.Lists.{getD-past, ext-getD}
 use Rattle.std.proofs.shelf.Tests.{cond-true, cond-false, and-from, and-parts, and-left, and-right, le-leb, lt-leb, lt-ltb, le-ltb, leb-true, ltb-true, cases-lt, cases-eq, cases-bool}
 use Rattle.frame.specs.declared.rate.Rate.{Rate}
 use Rattle.frame.specs.declared.rate.Rate.the-variants as R
-use Rattle.frame.specs.Rate.{shape, n-dbps}
+use Rattle.frame.specs.Rate.{shape, n-cbps, n-dbps}
 use Rattle.frame.specs.Bits.{differs, bit-at}
-use Rattle.frame.specs.Scrambler.{key-bit, moved-up, register-after, key as key-of}
-use Rattle.frame.specs.Streaming.{Masked}
+use Rattle.frame.specs.Scrambler.{key-bit, register-after, key as key-of}
+use Rattle.frame.specs.Streaming.{Masked, bits-under}
 use Rattle.frame.proofs.Keys.{register-on}
 use Rattle.frame.specs.Data.{steps, symbols, plain-bit, in-tail, scrambled-bit, data-bit, data-bits}
 
@@ -43,39 +42,25 @@ tail-parts octets n e =
     let p = and-parts (leb (16 + 8 * length octets) n) (ltb n (steps (length octets))) e in
     (leb-true _ _ (p .0), ltb-true _ _ (p .1))
 
-module _ (octets : List ℕ) (n : ℕ) (k : Bool) where
-  pub in-the-tail : 16 + 8 * length octets ≤ n → n < steps (length octets) → false ≡ scrambled-bit octets n k
-  unfolding scrambled-bit in-tail
-  in-the-tail h l = sym (cond-true _ _ _ (and-from (leb (16 + 8 * length octets) n) (ltb n (steps (length octets))) (le-leb _ _ h) (lt-ltb _ _ l)))
+pub before-the-tail : (octets : List ℕ) (n : ℕ) (k : Bool) → n < 16 + 8 * length octets → differs (plain-bit octets n) k ≡ scrambled-bit octets n k
+unfolding scrambled-bit in-tail
+before-the-tail octets n k h = sym (cond-false _ _ _ (and-left (leb (16 + 8 * length octets) n) (ltb n (steps (length octets))) (lt-leb _ _ h)))
 
-  pub before-the-tail : n < 16 + 8 * length octets → differs (plain-bit octets n) k ≡ scrambled-bit octets n k
-  unfolding scrambled-bit in-tail
-  before-the-tail h = sym (cond-false _ _ _ (and-left (leb (16 + 8 * length octets) n) (ltb n (steps (length octets))) (lt-leb _ _ h)))
+-- a symbol holds some data bits and some coded bits, and not many
+pub record Sizes (r : Rate) : Type 0 where
+  pub some-data : 0 < n-dbps (shape r)
+  pub few-data : n-dbps (shape r) ≤ 216
+  pub some-coded : 0 < n-cbps (shape r)
 
-  pub past-the-tail : steps (length octets) ≤ n → differs (plain-bit octets n) k ≡ scrambled-bit octets n k
-  unfolding scrambled-bit in-tail
-  past-the-tail h = sym (cond-false _ _ _ (and-right (leb (16 + 8 * length octets) n) (ltb n (steps (length octets))) (le-ltb _ _ h)))
-
--- a symbol holds some data bits, and not many
-pub dbps-some : (r : Rate) → 0 < n-dbps (shape r)
-dbps-some R.R6 = omega arith
-dbps-some R.R9 = omega arith
-dbps-some R.R12 = omega arith
-dbps-some R.R18 = omega arith
-dbps-some R.R24 = omega arith
-dbps-some R.R36 = omega arith
-dbps-some R.R48 = omega arith
-dbps-some R.R54 = omega arith
-
-pub dbps-few : (r : Rate) → n-dbps (shape r) ≤ 216
-dbps-few R.R6 = omega arith
-dbps-few R.R9 = omega arith
-dbps-few R.R12 = omega arith
-dbps-few R.R18 = omega arith
-dbps-few R.R24 = omega arith
-dbps-few R.R36 = omega arith
-dbps-few R.R48 = omega arith
-dbps-few R.R54 = omega arith
+pub sizes : (r : Rate) → Sizes r
+sizes R.R6 = record { some-data = omega arith; few-data = omega arith; some-coded = omega arith }
+sizes R.R9 = record { some-data = omega arith; few-data = omega arith; some-coded = omega arith }
+sizes R.R12 = record { some-data = omega arith; few-data = omega arith; some-coded = omega arith }
+sizes R.R18 = record { some-data = omega arith; few-data = omega arith; some-coded = omega arith }
+sizes R.R24 = record { some-data = omega arith; few-data = omega arith; some-coded = omega arith }
+sizes R.R36 = record { some-data = omega arith; few-data = omega arith; some-coded = omega arith }
+sizes R.R48 = record { some-data = omega arith; few-data = omega arith; some-coded = omega arith }
+sizes R.R54 = record { some-data = omega arith; few-data = omega arith; some-coded = omega arith }
 
 -- all symbols hold the steps of the data, and less than one symbol more
 pub record Full (r : Rate) (len n d : ℕ) : Type 0 where
@@ -86,8 +71,8 @@ pub full : (r : Rate) (len n d : ℕ) → n ≡ symbols (shape r) len → d ≡ 
 unfolding symbols
 full r len n d e f =
     let x : ℕ = 22 + 8 * len + (d - 1) in
-    let s : 0 < d = subst (λ (z : ℕ). 0 < z) (sym f) (dbps-some r) in
-    let m : d ≤ 216 = subst (λ (z : ℕ). z ≤ 216) (sym f) (dbps-few r) in
+    let s : 0 < d = subst (λ (z : ℕ). 0 < z) (sym f) (sizes r .some-data) in
+    let m : d ≤ 216 = subst (λ (z : ℕ). z ≤ 216) (sym f) (sizes r .few-data) in
     let q : n ≡ x / d = e ∙ ap (λ (z : ℕ). (22 + 8 * len + (z - 1)) / z) (sym f) in
     let whole : d * (x / d) + x % d ≡ x = div-add-mod x d in
     let rest : x % d < d = mod-lt x s in
@@ -99,7 +84,7 @@ symbols-few r len h =
     let n = symbols (shape r) len in
     let d = n-dbps (shape r) in
     let f = full r len n d refl refl in
-    omega (arith, f .few, mul-le-mul-left {m = 1} {n = d} n (dbps-some r))
+    omega (arith, f .few, mul-le-mul-left {m = 1} {n = d} n (sizes r .some-data))
 
 -- ---- four bits at a time
 
@@ -171,46 +156,55 @@ masked-bit octets n k =
         let parts = tail-parts octets n e in
         plain-past octets n (omega (arith, parts)) (omega (arith, parts))
 
--- four bits more of a stretch
+-- four bits more of a stretch, under the key of the register before it
 module _ (octets : List ℕ) (start seed : ℕ) where
+  pub fill-none : (out : List Bool) → (seed ≡ register-after seed (4 * 0)) × ((k : ℕ) → k < 4 * 0 → getD out k false ≡ scrambled-bit octets (start + k) (key-of seed k))
+  unfolding register-after
+  fill-none out = (refl, λ k h. absurd (omega arith))
+
   pub fill-more : (g register plain key masked register′ : ℕ) (out out′ : List Bool) →
-      (register ≡ register-after seed (start + 4 * g)) × ((k : ℕ) → k < 4 * g → getD out k false ≡ data-bit seed octets (start + k)) →
+      (register ≡ register-after seed (4 * g)) × ((k : ℕ) → k < 4 * g → getD out k false ≡ scrambled-bit octets (start + k) (key-of seed k)) →
       ((t : ℕ) → t < 4 → bit-at plain t ≡ plain-bit octets (start + 4 * g + t)) →
       ((t : ℕ) → t < 4 → bit-at key (3 - t) ≡ key-of register t) → Masked (length octets) (start + 4 * g) key masked →
       ((k : ℕ) → k < 4 * g → getD out′ k false ≡ getD out k false) →
       ((t : ℕ) → t < 4 → getD out′ (4 * g + t) false ≡ differs (bit-at plain t) (bit-at masked (3 - t))) →
       register′ ≡ register-after register 4 →
-      (register′ ≡ register-after seed (start + 4 * (g + 1))) × ((k : ℕ) → k < 4 * (g + 1) → getD out′ k false ≡ data-bit seed octets (start + k))
+      (register′ ≡ register-after seed (4 * (g + 1))) × ((k : ℕ) → k < 4 * (g + 1) → getD out′ k false ≡ scrambled-bit octets (start + k) (key-of seed k))
   fill-more g register plain key masked register′ out out′ inv p q m b w r =
       let n = start + 4 * g in
-      let moved : register-after register 4 ≡ register-after seed (start + 4 * (g + 1)) =
-      ap (λ (x : ℕ). register-after x 4) (inv .0) ∙ register-on seed n 4 ∙ ap (register-after seed) (let z : n + 4 ≡ start + 4 * (g + 1) = omega arith in z) in
-      let keyed : (t : ℕ) → key-of register t ≡ key-of seed (n + t) = λ t. ap (λ (x : ℕ). key-bit (register-after x t)) (inv .0) ∙ ap key-bit (register-on seed n t) in
-      let here : (t : ℕ) → t < 4 → getD out′ (4 * g + t) false ≡ data-bit seed octets (n + t) =
-      λ t l. w t l ∙ ap₂ differs (p t l) (m t l ∙ ap (λ (x : Bool). cond (in-tail (length octets) (n + t)) false x) (q t l ∙ keyed t)) ∙ masked-bit octets (n + t) (key-of seed (n + t)) in (
+      let moved : register-after register 4 ≡ register-after seed (4 * (g + 1)) =
+      ap (λ (x : ℕ). register-after x 4) (inv .0) ∙ register-on seed (4 * g) 4 ∙ ap (register-after seed) (let z : 4 * g + 4 ≡ 4 * (g + 1) = omega arith in z) in
+      let keyed : (t : ℕ) → key-of register t ≡ key-of seed (4 * g + t) = λ t. ap (λ (x : ℕ). key-bit (register-after x t)) (inv .0) ∙ ap key-bit (register-on seed (4 * g) t) in
+      let here : (t : ℕ) → t < 4 → getD out′ (4 * g + t) false ≡ scrambled-bit octets (n + t) (key-of seed (4 * g + t)) =
+      λ t l. w t l ∙ ap₂ differs (p t l) (m t l ∙ ap (λ (x : Bool). cond (in-tail (length octets) (n + t)) false x) (q t l ∙ keyed t)) ∙ masked-bit octets (n + t) (key-of seed (4 * g + t)) in (
         r ∙ moved,
         λ k l. elim (cases-lt k (4 * g)) [
           | inl h ↦ b k h ∙ inv .1 k h
           | inr h ↦
               let at : 4 * g + (k - 4 * g) ≡ k = omega arith in
-              ap (λ (z : ℕ). getD out′ z false) (sym at) ∙ here (k - 4 * g) (omega arith) ∙ ap (data-bit seed octets) (let z : n + (k - 4 * g) ≡ start + k = omega arith in z)
+              let from : n + (k - 4 * g) ≡ start + k = omega arith in
+              ap (λ (z : ℕ). getD out′ z false) (sym at) ∙ here (k - 4 * g) (omega arith) ∙ ap₂ (λ (x : ℕ) (y : ℕ). scrambled-bit octets x (key-of seed y)) from at
         ],
       )
 
-  pub fill-all : (g register : ℕ) (out : List Bool) → 4 * g ≡ length out →
-      (register ≡ register-after seed (start + 4 * g)) × ((k : ℕ) → k < 4 * g → getD out k false ≡ data-bit seed octets (start + k)) →
-      (out ≡ data-bits seed octets start (length out)) × (register ≡ register-after seed (start + length out))
-  fill-all g register out e inv = (
-    ext-getD false out (data-bits seed octets start (length out)) (sym (length-map-counting (data-bit seed octets) start (length out)))
-        (λ k h. inv .1 k (omega arith) ∙ sym (getD-map-counting (data-bit seed octets) start (length out) k (start + k) false h refl)),
-    inv .0 ∙ ap (λ (z : ℕ). register-after seed (start + z)) e,
+  pub fill-all : (g register : ℕ) (out : List Bool) (n : ℕ) → 4 * g ≡ n → length out ≡ n →
+      (register ≡ register-after seed (4 * g)) × ((k : ℕ) → k < 4 * g → getD out k false ≡ scrambled-bit octets (start + k) (key-of seed k)) →
+      (out ≡ bits-under octets seed start n) × (register ≡ register-after seed n)
+  fill-all g register out n e l inv = (
+    fill-by-all (λ t. scrambled-bit octets (start + t) (key-of seed t)) out n false l (λ k h. inv .1 k (omega arith)),
+    inv .0 ∙ ap (register-after seed) e,
   )
 
-pub fill-none : (octets : List ℕ) (register start seed : ℕ) (out : List Bool) → register ≡ register-after seed start →
-    (register ≡ register-after seed (start + 4 * 0)) × ((k : ℕ) → k < 4 * 0 → getD out k false ≡ data-bit seed octets (start + k))
-fill-none octets register start seed out e =
-    let z : start ≡ start + 4 * 0 = omega arith in
-    (e ∙ ap (register-after seed) z, λ k h. absurd (omega arith))
+-- the same bits by the seed that the register came from
+pub bits-of-seed : (octets : List ℕ) (seed register start n : ℕ) → register ≡ register-after seed start → bits-under octets register start n ≡ data-bits seed octets start n
+bits-of-seed octets seed register start n e =
+    ext-getD false (bits-under octets register start n) (data-bits seed octets start n)
+    (length-map-counting (λ t. scrambled-bit octets (start + t) (key-of register t)) 0 n ∙ sym (length-map-counting (data-bit seed octets) start n))
+    (λ k h.
+    let l : k < n = omega (arith, length-map-counting (λ t. scrambled-bit octets (start + t) (key-of register t)) 0 n) in
+    getD-map-counting (λ t. scrambled-bit octets (start + t) (key-of register t)) 0 n k k false l (omega arith)
+    ∙ ap (scrambled-bit octets (start + k)) (ap (λ (x : ℕ). key-bit (register-after x k)) e ∙ ap key-bit (register-on seed start k))
+    ∙ sym (getD-map-counting (data-bit seed octets) start n k (start + k) false l refl))
 
 -- a stretch of bits after another
 pub data-bits-append : (seed : ℕ) (octets : List ℕ) (start m n : ℕ) → data-bits seed octets start (m + n) ≡ data-bits seed octets start m ++ data-bits seed octets (start + m) n

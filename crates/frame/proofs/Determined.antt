@@ -1,27 +1,26 @@
 -- What bits determine: a number, the header's rate and LENGTH, the seed, the bytes.
-use mathlib.Core.Path.{_≡_, refl, sym, ap, ap₂, _∙_, subst}
-use mathlib.Core.Bool.{Bool, true, false, cond, _&&_}
-use mathlib.Core.List.{List, [], _∷_, map}
-use mathlib.Core.Logic.{inl, inr}
+use mathlib.Core.Path.{_≡_, refl, sym, ap, ap₂, _∙_}
+use mathlib.Core.Bool.{Bool, true, false}
+use mathlib.Core.List.{List, map}
 use Prim.Native.Nat.{ℕ, zero, suc, _+_, _-_, _*_, _/_, _%_, _^_, _≤_, _<_}
-use native.Mathlib.Nat.{div-add-mod, div-one, pow-suc}
+use native.Mathlib.Nat.{div-one, pow-suc}
 use native.Mathlib.Omega.{arith}
-use lib.Dec.{eqb, ltb, leb}
+use lib.Dec.{eqb}
 use lib.ListN.{length, getD, take, drop}
-use lib.Pow.{shr-shr, shr-lt}
+use lib.Pow.{shr-shr}
 use Rattle.std.specs.Iters.{counting}
 use Rattle.std.proofs.shelf.Counted.{getD-map-counting}
 use Rattle.std.proofs.shelf.Lists.{ext-getD}
-use Rattle.std.proofs.shelf.Tests.{eqb-true, eqb-false, cases-bool}
+use Rattle.std.proofs.shelf.Tests.{eqb-true}
 use Rattle.frame.specs.declared.rate.Rate.{Rate}
 use Rattle.frame.specs.declared.rate.Rate.the-variants as R
-use Rattle.frame.specs.Rate.{shape, n-dbps}
 use Rattle.frame.specs.Bits.{bit-of, differs, bit-at}
 use Rattle.frame.specs.Header.{header}
 use Rattle.frame.specs.Scrambler.{key-bit, moved-up, register-after, key}
-use Rattle.frame.specs.Data.{symbols, plain-bit, data-bit, data-bits}
+use Rattle.frame.specs.Data.{plain-bit, data-bit, data-bits}
+use Rattle.frame.proofs.HeaderBits.{read-rate, header-parts}
 use Rattle.frame.proofs.Tables.{every-below, at-below}
-use Rattle.frame.proofs.DataBits.{plain-before, plain-within, before-the-tail, full, Full}
+use Rattle.frame.proofs.DataBits.{plain-before, plain-within, before-the-tail}
 
 -- ---- numbers
 
@@ -49,39 +48,11 @@ same-bits (suc n) a b g h f =
 
 -- ---- the header
 
-read-rate : List Bool → Rate
-read-rate bits =
-    let r1 = getD bits 0 false in
-    let r2 = getD bits 1 false in
-    let r3 = getD bits 2 false in
-    cond r1 (cond r2 (cond r3 R.R9 R.R6) (cond r3 R.R36 R.R24)) (cond r2 (cond r3 R.R18 R.R12) (cond r3 R.R54 R.R48))
-
-rate-read : (r : Rate) (len : ℕ) → read-rate (header r len) ≡ r
-unfolding read-rate
-rate-read R.R6 len = refl
-rate-read R.R9 len = refl
-rate-read R.R12 len = refl
-rate-read R.R18 len = refl
-rate-read R.R24 len = refl
-rate-read R.R36 len = refl
-rate-read R.R48 len = refl
-rate-read R.R54 len = refl
-
-length-part : (r : Rate) (len : ℕ) → take 12 (drop 5 (header r len)) ≡ map (bit-at len) (counting 0 12)
-length-part R.R6 len = refl
-length-part R.R9 len = refl
-length-part R.R12 len = refl
-length-part R.R18 len = refl
-length-part R.R24 len = refl
-length-part R.R36 len = refl
-length-part R.R48 len = refl
-length-part R.R54 len = refl
-
 pub header-determines : (r r′ : Rate) (len len′ : ℕ) → len < 4096 → len′ < 4096 → header r len ≡ header r′ len′ → (r ≡ r′) × (len ≡ len′)
 header-determines r r′ len len′ g h e =
     let lengths : map (bit-at len) (counting 0 12) ≡ map (bit-at len′) (counting 0 12) =
-    sym (length-part r len) ∙ ap (λ (x : List Bool). take 12 (drop 5 x)) e ∙ length-part r′ len′ in (
-      sym (rate-read r len) ∙ ap read-rate e ∙ rate-read r′ len′,
+    sym (header-parts r len .lengths) ∙ ap (λ (x : List Bool). take 12 (drop 5 x)) e ∙ header-parts r′ len′ .lengths in (
+      sym (header-parts r len .rate) ∙ ap read-rate e ∙ header-parts r′ len′ .rate,
       same-bits 12 len len′ g h (λ j l.
           sym (getD-map-counting (bit-at len) 0 12 j j false l (omega arith)) ∙ ap (λ (x : List Bool). getD x j false) lengths ∙ getD-map-counting (bit-at len′) 0 12 j j false l (omega arith)),
     )

@@ -6,7 +6,7 @@ use native.Mathlib.Omega.{arith}
 use lib.Bits.{bitXor}
 use lib.Dec.{eqb}
 use Rattle.std.proofs.shelf.Tests.{and-parts, eqb-true}
-use Rattle.frame.specs.Bits.{bit-at, differs}
+use Rattle.frame.specs.Bits.{bit-at}
 use Rattle.frame.specs.Scrambler.{key-bit, moved-up, register-after, key}
 use Rattle.frame.proofs.Tables.{every-below, at-below}
 

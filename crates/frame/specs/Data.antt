@@ -9,7 +9,7 @@ use Rattle.frame.specs.Rate.{Shape, n-dbps}
 use Rattle.frame.specs.Bits.{differs, bit-at}
 use Rattle.frame.specs.Scrambler.{key}
 
--- the data takes 16 SERVICE bits, the bytes and six tail bits: one step of the coder for each
+-- the data up to the tail's end: 16 SERVICE bits, the bytes and six tail bits; pads come after it
 abbrev pub steps : ℕ → ℕ
 steps length = 22 + 8 * length
 

@@ -6,8 +6,9 @@ ghost use Prim.Native.Nat.{ℕ, _+_, _-_, _*_, _%_, _<_, _≤_, _^_};
 ghost use lib.ListN.{length as len, getD};
 ghost use Rattle.frame.specs.Rate.{shape};
 ghost use Rattle.frame.specs.Bits.{bit-at, differs};
-ghost use Rattle.frame.specs.Data.{symbols, pads, plain-bit, in-tail};
-ghost use Rattle.frame.specs.Streaming.{Masked, Filled};
+ghost use Rattle.frame.specs.Data.{symbols, pads, plain-bit};
+ghost use Rattle.frame.specs.Scrambler.{register-after};
+ghost use Rattle.frame.specs.Streaming.{Masked, bits-under};
 use crate::rate::Rate;
 use crate::scrambler::next_four_key_bits;
 
@@ -70,7 +71,8 @@ pub fn fill_data_bits(bytes: &[u8], register: u8, start: usize, out: &mut [bool]
     requires { ⌜ start % 4 ≡ 0 ⌝ }
     requires { ⌜ len (now out) % 4 ≡ 0 ⌝ }
     requires { ⌜ start + len (now out) < 2 ^ 64 ⌝ }
-    ensures { λ r. ⌜ Filled (now (bytes .entry)) register start r (now (out .exit)) ⌝ }
+    ensures bits { λ _. ⌜ now (out .exit) ≡ bits-under (now (bytes .entry)) register start (len (now (out .entry))) ⌝ }
+    ensures moved { λ r. ⌜ r ≡ register-after register (len (now (out .entry))) ⌝ }
 {
     let mut now_at = register;
     for g in 0..out.len() / 4 {

@@ -8,6 +8,7 @@ ghost use Rattle.frame.specs.Scrambler.{key, register-after};
 // The next four key bits, the first as the highest bit, and the register after them.
 pub fn next_four_key_bits(register: u8) -> (u8, u8)
     ensures bits { λ r. ⌜ ((t : ℕ) → t < 4 → bit-at (r .0) (3 - t) ≡ key register t) ⌝ }
+    ensures four { λ r. ⌜ r .0 < 16 ⌝ }
     ensures moved { λ r. ⌜ r .1 ≡ register-after register 4 ⌝ }
 {
     let key_bits = (register ^ register / 8) % 16;

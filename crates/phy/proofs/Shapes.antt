@@ -1,13 +1,13 @@
 -- Every rate's symbol holds whole periods of its puncturing pattern, and fills its carriers.
 use mathlib.Core.Path.{_≡_, refl, sym, ap, ap₂, _∙_}
-use Prim.Native.Nat.{ℕ, _*_, _%_, _≤_}
+use Prim.Native.Nat.{ℕ, _*_, _%_}
 use lib.ListN.{length}
 use Rattle.frame.specs.declared.rate.Rate.{Rate}
 use Rattle.frame.specs.declared.rate.Rate.the-variants as R
 use Rattle.frame.specs.declared.rate.CodeRate.{CodeRate}
 use Rattle.frame.specs.declared.rate.Modulation.{Modulation}
 use Rattle.frame.specs.Rate.{Shape, shape, n-bpsc, n-cbps, n-dbps}
-use Rattle.coding.specs.Puncturing.{pattern, sends, sent-count}
+use Rattle.coding.specs.Puncturing.{pattern, sent-of, sent-count}
 use Rattle.phy.specs.Writing.{Fills}
 
 pub record Regular (s : Shape) : Type 0 where
@@ -15,7 +15,7 @@ pub record Regular (s : Shape) : Type 0 where
   pub fills : sent-count (s .code-rate) (n-dbps s) ≡ n-cbps s
 
 pub regular : (r : Rate) → Regular (shape r)
-unfolding sent-count sends
+unfolding sent-count sent-of
 regular R.R6 = record { whole = refl; fills = refl }
 regular R.R9 = record { whole = refl; fills = refl }
 regular R.R12 = record { whole = refl; fills = refl }

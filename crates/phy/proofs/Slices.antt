@@ -1,5 +1,5 @@
 -- A symbol's coded bits, coded from the state before it, are its part of the whole frame's.
-use mathlib.Core.Path.{_≡_, refl, sym, ap, ap₂, _∙_}
+use mathlib.Core.Path.{_≡_, sym, ap, _∙_}
 use mathlib.Core.Bool.{Bool}
 use mathlib.Core.List.{List, _++_}
 use Prim.Native.Nat.{ℕ, suc, _+_, _-_, _*_, _≤_, _<_}
@@ -11,9 +11,9 @@ use Rattle.frame.specs.Rate.{Shape, n-cbps, n-dbps}
 use Rattle.frame.specs.Data.{symbols, data-bits}
 use Rattle.frame.proofs.DataBits.{data-bits-append, length-data-bits}
 use Rattle.coding.specs.Coder.{coded, coded-from, state-from}
-use Rattle.coding.specs.Puncturing.{sends, punctured, punctured-from, sent-count}
+use Rattle.coding.specs.Puncturing.{sent-of, punctured, punctured-from}
 use Rattle.coding.proofs.States.{coded-append, length-coded}
-use Rattle.coding.proofs.Sends.{punctured-append, punctured-again, length-sent, sends-again, count-periods}
+use Rattle.coding.proofs.Punctured.{punctured-append, punctured-again, length-sent, sent-again, count-periods}
 use Rattle.phy.specs.Symbols.{sent-bits}
 use Rattle.phy.proofs.Shapes.{Regular}
 
@@ -30,14 +30,14 @@ module _ (s : Shape) (regular : Regular s) (k : ℕ) (a b e : List Bool) (before
       let la : length A ≡ k * d = length-coded 0 a ∙ before in
       let lb : length B ≡ d = length-coded (state-from 0 a) b ∙ one in
       let counted : length (punctured c A) ≡ k * n-cbps s = length-sent c (k * d) A la ∙ count-periods c d (regular .whole) k ∙ ap (λ (z : ℕ). k * z) (regular .fills) in
-      let tail : punctured-from (sends c) (0 + length A) (B ++ E) ≡ punctured c B ++ punctured-from (sends c) (0 + length B) E =
-      ap (λ (z : ℕ). punctured-from (sends c) z (B ++ E)) (let p : 0 + length A ≡ k * d + 0 = omega arith in p)
-      ∙ punctured-again (sends c) (k * d) (sends-again c d (regular .whole) k) 0 (B ++ E) ∙ punctured-append (sends c) 0 B E in
-      let all : punctured c (coded (a ++ (b ++ e))) ≡ punctured c A ++ (punctured c B ++ punctured-from (sends c) (0 + length B) E) =
-      ap (punctured c) split ∙ punctured-append (sends c) 0 A (B ++ E) ∙ ap (λ (z : List Bool). punctured c A ++ z) tail in
+      let tail : punctured-from (sent-of c) (0 + length A) (B ++ E) ≡ punctured c B ++ punctured-from (sent-of c) (0 + length B) E =
+      ap (λ (z : ℕ). punctured-from (sent-of c) z (B ++ E)) (let p : 0 + length A ≡ k * d + 0 = omega arith in p)
+      ∙ punctured-again (sent-of c) (k * d) (sent-again c d (regular .whole) k) 0 (B ++ E) ∙ punctured-append (sent-of c) 0 B E in
+      let all : punctured c (coded (a ++ (b ++ e))) ≡ punctured c A ++ (punctured c B ++ punctured-from (sent-of c) (0 + length B) E) =
+      ap (punctured c) split ∙ punctured-append (sent-of c) 0 A (B ++ E) ∙ ap (λ (z : List Bool). punctured c A ++ z) tail in
       sym (ap (λ (z : List Bool). take (n-cbps s) (drop (k * n-cbps s) z)) all
-      ∙ ap (take (n-cbps s)) (drop-at (punctured c A) (punctured c B ++ punctured-from (sends c) (0 + length B) E) (k * n-cbps s) counted)
-      ∙ take-at (punctured c B) (punctured-from (sends c) (0 + length B) E) (n-cbps s) (length-sent c d B lb ∙ regular .fills))
+      ∙ ap (take (n-cbps s)) (drop-at (punctured c A) (punctured c B ++ punctured-from (sent-of c) (0 + length B) E) (k * n-cbps s) counted)
+      ∙ take-at (punctured c B) (punctured-from (sent-of c) (0 + length B) E) (n-cbps s) (length-sent c d B lb ∙ regular .fills))
 
 -- the data bits before symbol k, its own, and those after it
 pub sliced-frame : (s : Shape) (regular : Regular s) (seed : ℕ) (octets : List ℕ) (k : ℕ) → k < symbols s (length octets) →

@@ -1,16 +1,14 @@
 -- One symbol more of a sending.
-use mathlib.Core.Path.{_≡_, refl, sym, ap, ap₂, _∙_, subst}
-use mathlib.Core.Bool.{Bool}
+use mathlib.Core.Path.{_≡_, sym, ap, ap₂, _∙_, subst}
 use mathlib.Core.List.{List, _++_}
-use Prim.Native.Nat.{ℕ, zero, suc, _+_, _-_, _*_, _%_, _≤_, _<_}
+use Prim.Native.Nat.{ℕ, suc, _+_, _-_, _*_, _%_, _<_}
 use native.Mathlib.Nat.{add-mul, mod-eq-of-lt, zero-add}
 use native.Mathlib.Omega.{arith}
-use lib.Dec.{eqb, ltb}
 use lib.ListN.{length}
 use Rattle.std.proofs.shelf.Tests.{cond-true, lt-ltb, eq-eqb}
 use Rattle.std.specs.declared.option.Option.the-variants.{None}
 use Rattle.frame.specs.declared.rate.Rate.{Rate}
-use Rattle.frame.specs.Rate.{shape, n-dbps, n-cbps}
+use Rattle.frame.specs.Rate.{shape, n-dbps}
 use Rattle.frame.specs.Scrambler.{register-after}
 use Rattle.frame.specs.Data.{symbols, data-bits}
 use Rattle.frame.proofs.DataBits.{data-bits-append}
@@ -20,7 +18,7 @@ use Rattle.coding.proofs.States.{state-append}
 use Rattle.carriers.specs.declared.carrier.Carrier.{Carrier}
 use Rattle.phy.specs.declared.sending.Sending.{Sending}
 use Rattle.phy.specs.Fault.{symbol-refused}
-use Rattle.phy.specs.Symbols.{symbol-of, header-symbol, data-symbol, sent-symbol, symbols-in-all}
+use Rattle.phy.specs.Symbols.{symbol-of, header-symbol, data-symbol, sent-symbol}
 use Rattle.phy.specs.Writing.{Streamed, DataWritten}
 use Rattle.phy.specs.Sends.{Sends}
 use Rattle.phy.proofs.Shapes.{regular}

@@ -1,5 +1,5 @@
 -- From the symbols back to the frame.
-use mathlib.Core.Path.{_≡_, refl, sym, ap, ap₂, _∙_, subst}
+use mathlib.Core.Path.{_≡_, refl, sym, ap, _∙_}
 use mathlib.Core.Bool.{Bool, false}
 use mathlib.Core.List.{List}
 use Prim.Native.Nat.{ℕ, suc, _+_, _-_, _*_, _/_, _%_, _≤_, _<_}
@@ -17,18 +17,18 @@ use Rattle.frame.specs.declared.rate.Modulation.the-variants as M
 use Rattle.frame.specs.Rate.{shape, n-bpsc, n-cbps, n-dbps}
 use Rattle.frame.specs.Header.{header}
 use Rattle.frame.specs.Data.{symbols, data-bits}
-use Rattle.frame.proofs.HeaderBits.{length-header}
-use Rattle.frame.proofs.DataBits.{length-data-bits, full, Full}
+use Rattle.frame.proofs.HeaderBits.{header-parts}
+use Rattle.frame.proofs.DataBits.{length-data-bits, full, sizes}
 use Rattle.frame.proofs.Determined.{header-determines, seed-determined, bytes-determined}
 use Rattle.coding.specs.Coder.{coded}
-use Rattle.coding.specs.Puncturing.{sends, punctured, sent-count}
+use Rattle.coding.specs.Puncturing.{sent-of, punctured}
 use Rattle.coding.specs.Interleaver.{Grid, interleaved, source, turn-size}
 use Rattle.coding.proofs.States.{length-coded}
-use Rattle.coding.proofs.Sends.{length-sent, count-periods}
+use Rattle.coding.proofs.Punctured.{length-sent, count-periods}
 use Rattle.coding.proofs.Interleaving.{interleaved-determines}
-use Rattle.coding.proofs.Determined.{punctured-determines, sends-some}
+use Rattle.coding.proofs.Determined.{punctured-determines, sent-some}
 use Rattle.carriers.proofs.Determined.{mapped-determines}
-use Rattle.phy.specs.Symbols.{symbol-of, header-symbol, sent-bits, data-symbol, sent-symbol, symbols-in-all}
+use Rattle.phy.specs.Symbols.{symbol-of, header-symbol, sent-bits, data-symbol}
 use Rattle.phy.specs.Telling.{Sendable, Symbols-tell-the-frame}
 use Rattle.phy.proofs.Shapes.{regular}
 
@@ -61,9 +61,9 @@ unfolding header-symbol
 header-symbol-determines r r′ len len′ g h e =
     let c = shape R.R6 .code-rate in
     let sent : (r : Rate) (len : ℕ) → length (punctured c (coded (header r len))) ≡ n-cbps (shape R.R6) =
-    λ r len. length-sent c 24 (coded (header r len)) (length-coded 0 (header r len) ∙ length-header r len) ∙ regular R.R6 .fills in
+    λ r len. length-sent c 24 (coded (header r len)) (length-coded 0 (header r len) ∙ header-parts r len .long) ∙ regular R.R6 .fills in
     header-determines r r′ len len′ g h
-    (punctured-determines (sends c) (sends-some c) 0 0 (header r len) (header r′ len′) (lit< tt) (length-header r len ∙ sym (length-header r′ len′))
+    (punctured-determines (sent-of c) (sent-some c) 0 0 (header r len) (header r′ len′) (lit< tt) (header-parts r len .long ∙ sym (header-parts r′ len′ .long))
     (symbol-determines R.R6 (punctured c (coded (header r len))) (punctured c (coded (header r′ len′))) (sent r len) (sent r′ len′) e))
 
 -- ---- all data symbols
@@ -94,16 +94,6 @@ length-slice : (N c k : ℕ) (xs : List Bool) → length xs ≡ N * c → k < N 
 length-slice N c k xs e h =
     length-take-le c (drop (k * c) xs) (omega (arith, length-drop (k * c) xs, suc-mul k c, mul-le-mul-right {m = suc k} {n = N} c h))
 
-some-coded : (r : Rate) → 0 < n-cbps (shape r)
-some-coded R.R6 = omega arith
-some-coded R.R9 = omega arith
-some-coded R.R12 = omega arith
-some-coded R.R18 = omega arith
-some-coded R.R24 = omega arith
-some-coded R.R36 = omega arith
-some-coded R.R48 = omega arith
-some-coded R.R54 = omega arith
-
 -- the same rate and byte count, and the same data symbols
 data-determine : (r : Rate) (seed seed′ : ℕ) (octets octets′ : List ℕ) → Sendable seed octets → Sendable seed′ octets′ → length octets ≡ length octets′ →
     ((k : ℕ) → k < symbols (shape r) (length octets) → data-symbol (shape r) seed octets k ≡ data-symbol (shape r) seed′ octets′ k) → (seed ≡ seed′) × (octets ≡ octets′)
@@ -118,11 +108,11 @@ data-determine r seed seed′ octets octets′ ok ok′ long f =
     let lx : length X ≡ N * c = length-sent-bits r seed octets in
     let ly : length Y ≡ N * c = length-sent-bits r seed′ octets′ ∙ ap (λ (z : ℕ). symbols s z * c) (sym long) in
     let sent : X ≡ Y =
-    same-slices N c X Y (some-coded r) lx ly (λ k h.
+    same-slices N c X Y (sizes r .some-coded) lx ly (λ k h.
     symbol-determines r (take c (drop (k * c) X)) (take c (drop (k * c) Y)) (length-slice N c k X lx h) (length-slice N c k Y ly h) (f k h)) in
     let T′ : symbols s (length octets′) * n-dbps s ≡ T = ap (λ (z : ℕ). symbols s z * n-dbps s) (sym long) in
     let bits : data-bits seed octets 0 T ≡ data-bits seed′ octets′ 0 T =
-    punctured-determines (sends (s .code-rate)) (sends-some (s .code-rate)) 0 0 (data-bits seed octets 0 T) (data-bits seed′ octets′ 0 T) (lit< tt)
+    punctured-determines (sent-of (s .code-rate)) (sent-some (s .code-rate)) 0 0 (data-bits seed octets 0 T) (data-bits seed′ octets′ 0 T) (lit< tt)
     (length-data-bits seed octets 0 T ∙ sym (length-data-bits seed′ octets′ 0 T))
     (sent ∙ ap (λ (z : ℕ). punctured (s .code-rate) (coded (data-bits seed′ octets′ 0 z))) T′) in
     let enough : 22 + 8 * length octets ≤ T = full r (length octets) N (n-dbps s) refl refl .enough in

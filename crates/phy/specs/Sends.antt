@@ -1,9 +1,8 @@
--- What a sending is, by the frame that it sends and how far it is; and what its calls do.
+-- What a sending is, by the frame that it sent-of and how far it is; and what its calls do.
 use mathlib.Core.Path.{_≡_}
 use mathlib.Core.List.{List}
 use Prim.Native.Nat.{ℕ, _+_, _-_, _*_, _<_}
 use lib.ListN.{length}
-use Rattle.std.specs.declared.option.Option.{Option}
 use Rattle.std.specs.declared.option.Option.the-variants.{Some, None}
 use Rattle.std.specs.declared.result.Result.{Result}
 use Rattle.std.specs.declared.result.Result.the-variants.{Ok, Err}
@@ -18,7 +17,7 @@ use Rattle.phy.specs.declared.sending.Sending.{Sending}
 use Rattle.phy.specs.Fault.{making-refused, symbol-refused}
 use Rattle.phy.specs.Symbols.{sent-symbol, symbols-in-all}
 
--- s sends the octets at this rate from this seed, and has n symbols behind it
+-- s sent-of the octets at this rate from this seed, and has n symbols behind it
 pub record Sends (s : Sending) (r : Rate) (seed : ℕ) (octets : List ℕ) (n : ℕ) : Type 0 where
   pub rated : s .rate ≡ r
   pub lent : s .bytes .now ≡ octets
@@ -29,7 +28,7 @@ pub record Sends (s : Sending) (r : Rate) (seed : ℕ) (octets : List ℕ) (n : 
   pub held : s .state ≡ state-from 0 (data-bits seed octets 0 ((n - 1) * n-dbps (shape r)))
   pub six-bits : s .state < 64
 
--- making a sending: it is refused as the faults say, and by no other rule, or it sends this frame from its first symbol on
+-- making a sending: it is refused as the faults say, and by no other rule, or it sent-of this frame from its first symbol on
 abbrev pub Made : ℕ → ℕ → List ℕ → Result Sending SendFault → Type 0
 Made number seed octets (Ok s) = (making-refused number seed (length octets) ≡ None) × ((r : Rate) → rate-of number ≡ Some r → Sends s r seed octets 0)
 Made number seed octets (Err fault) = making-refused number seed (length octets) ≡ Some fault

@@ -15,6 +15,7 @@ use Rattle.coding.specs.Puncturing.{pattern, punctured, sent-count}
 use Rattle.carriers.specs.declared.carrier.Carrier.{Carrier}
 use Rattle.phy.specs.Symbols.{symbol-of}
 
+-- the shape of an 802.11a symbol with this modulation and coding rate
 abbrev pub shaped : Modulation → CodeRate → Shape
 shaped m c = record { modulation = m; code-rate = c; carriers = 48; columns = 16 }
 
@@ -23,11 +24,13 @@ pub record Fills (m : Modulation) (c : CodeRate) (n : ℕ) : Type 0 where
   pub whole : n % length (pattern c) ≡ 0
   pub filled : sent-count c n ≡ 48 * n-bpsc m
 
+-- `out` is the symbol of these data bits, coded from the state before them, and `after` the state after them
 pub record Written (m : Modulation) (c : CodeRate) (bits : List Bool) (before after : ℕ) (out : List Carrier) : Type 0 where
   pub left : after ≡ state-from before bits
   pub six-bits : after < 64
   pub carriers : out ≡ symbol-of (shaped m c) (punctured c (coded-from before bits))
 
+-- `out` is the symbol of the seed's data bits of symbol k, and `after` holds the register and the state after them
 pub record Streamed (seed : ℕ) (octets : List ℕ) (s : Shape) (k state : ℕ) (after : ℕ × ℕ) (out : List Carrier) : Type 0 where
   pub keyed : after .0 ≡ register-after seed (k * n-dbps s + n-dbps s)
   pub held : after .1 ≡ state-from state (data-bits seed octets (k * n-dbps s) (n-dbps s))

@@ -1,4 +1,4 @@
 pub mod fault;
 pub mod sending;
-pub mod symbol;
+mod symbol;
 pub mod telling;

@@ -22,14 +22,27 @@ fn mix_symbol(digest: u32, symbol: &[Carrier]) -> u32 {
     digest
 }
 
-// The digest of the header and the data symbols that the bytes are sent in.
-pub fn frame_digest(rate: u32, seed: u32, bytes: &[u8], symbols: usize) -> Result<u32, SendFault> {
+// What was sent of a frame: how many data symbols, and the digest of all symbols, the header's among them.
+#[derive(Clone, Copy)]
+pub struct Sent {
+    pub symbols: usize,
+    pub digest: u32,
+}
+
+// Sends the bytes until the sending is over.
+pub fn send_frame(rate: u32, seed: u32, bytes: &[u8]) -> Result<Sent, SendFault> {
     let mut sending = Sending::new(rate, seed, bytes)?;
     let mut digest = 2166136261;
-    for _ in 0..=symbols {
+    // no frame has as many symbols as this
+    for symbols in 0..usize::from(u16::MAX) {
         let mut symbol = [Carrier::Struck; 48];
-        sending.next(&mut symbol)?;
-        digest = mix_symbol(digest, &symbol);
+        match sending.next(&mut symbol) {
+            Ok(()) => digest = mix_symbol(digest, &symbol),
+            Err(_) => return Ok(Sent {
+                symbols: symbols.saturating_sub(1),
+                digest,
+            }),
+        }
     }
-    Ok(digest)
+    Err(SendFault::Over)
 }

@@ -1,7 +1,6 @@
 // Sends pseudo-random frames of every rate and prints a digest of each, to be held against another sender's.
-use digest::frame_digest;
-use frame::data::symbol_count;
-use frame::rate::Rate;
+use digest::Sent;
+use digest::send_frame;
 use generator::Generator;
 use std::env;
 use std::error::AnyError;
@@ -29,11 +28,7 @@ fn show_frame(rt: &LibcRuntime, number: u32, generator: &mut Generator) -> Resul
     let seed = 1 + generator.next() % 127;
     let length = generator.length(number);
     let bytes = generator.bytes(rt.alloc(), length)?;
-    let Some(known) = Rate::from_number(rate) else {
-        return Err("not a rate".into());
-    };
-    let symbols = symbol_count(known, length);
-    let Ok(digest) = frame_digest(rate, seed, bytes.as_slice(), symbols) else {
+    let Ok(Sent { symbols, digest }) = send_frame(rate, seed, bytes.as_slice()) else {
         return Err("a frame was refused".into());
     };
     println!(

@@ -1,7 +1,7 @@
 -- Worked values: a table of what the definitions give and what it should be.
 use mathlib.Core.Bool.{Bool, true, false, _&&_}
 use mathlib.Core.List.{List, [], _∷_, _++_, map}
-use Prim.Native.Nat.{ℕ, suc, _+_, _*_, _/_}
+use Prim.Native.Nat.{ℕ, _+_, _*_, _/_}
 use lib.Chars.{codes}
 use lib.Dec.{eqb}
 use lib.Ieee.{Float, nan, inf, fin, up, down}
@@ -20,12 +20,12 @@ use Rattle.coding.specs.Interleaver.{place}
 use Rattle.carriers.specs.declared.carrier.Point.{Point}
 use Rattle.carriers.specs.Mapper.{point-at}
 
--- a row: what is given, and what is expected, as lists of numbers
-abbrev pub Row : Type 0
-Row = List ℕ × List ℕ
+-- a case: what is given, and what is expected, as lists of numbers
+abbrev pub Case : Type 0
+Case = List ℕ × List ℕ
 
 -- bits against a text of zeros and ones
-abbrev pub bits : List Bool → List ℕ → Row
+abbrev pub bits : List Bool → List ℕ → Case
 bits given text = (map (λ b. 48 + bit-of b) given, text)
 
 abbrev pub pairs : List (Bool × Bool) → List Bool
@@ -41,10 +41,12 @@ signed (fin s m e) = bit-of s ∷ m * up e / down e ∷ []
 abbrev pub point : Point → List ℕ
 point p = signed (p .i) ++ signed (p .q)
 
-unfoldable pub table : List Row
+unfoldable pub table : List Case
 table =
     bits (map (key 127) (counting 0 16)) (codes "0000111011110010")
     ∷ bits (map (key 93) (counting 0 16)) (codes "0110110000011001")
+    -- 127 and 93 read the same both ways: this seed tells x1 from x7
+    ∷ bits (map (key 1) (counting 0 16)) (codes "0001001100010111")
     ∷ bits (pairs (coded (true ∷ false ∷ false ∷ false ∷ false ∷ false ∷ false ∷ []))) (codes "11011111001011")
     ∷ bits (header R.R36 100) (codes "101100010011000000000000")
     -- N_SYM and pads
@@ -54,8 +56,14 @@ table =
     -- where coded bit 1 goes; and coded bit 2 of 288, which a turn the other way would put at 38
     ∷ (place 16 48 1 1 ∷ place 16 192 2 1 ∷ place 16 288 3 1 ∷ place 16 288 3 2 ∷ [], 3 ∷ 13 ∷ 20 ∷ 37 ∷ [])
     ∷ bits (punctured C.ThreeQuarters ((true, true) ∷ (false, true) ∷ (true, true) ∷ [])) (codes "1101")
-    -- I = 3, Q = -1
+    -- the same pattern with A2 and B2 apart, and the pattern of 2/3
+    ∷ bits (punctured C.ThreeQuarters ((true, true) ∷ (false, true) ∷ (true, false) ∷ [])) (codes "1100")
+    ∷ bits (punctured C.TwoThirds ((true, true) ∷ (false, true) ∷ [])) (codes "110")
+    -- BPSK I = -1, Q = 0; QPSK I = 1, Q = -1; 16-QAM I = 3, Q = -1; 64-QAM I = 5, Q = -3
+    ∷ (point (point-at M.Bpsk (false ∷ []) 0), 1 ∷ 1 ∷ 0 ∷ 0 ∷ [])
+    ∷ (point (point-at M.Qpsk (true ∷ false ∷ []) 0), 0 ∷ 1 ∷ 1 ∷ 1 ∷ [])
     ∷ (point (point-at M.Qam16 (true ∷ false ∷ false ∷ true ∷ []) 0), 0 ∷ 3 ∷ 1 ∷ 1 ∷ [])
+    ∷ (point (point-at M.Qam64 (true ∷ false ∷ true ∷ false ∷ true ∷ true ∷ []) 0), 0 ∷ 5 ∷ 1 ∷ 3 ∷ [])
     ∷ []
 
 unfoldable pub same : List ℕ → List ℕ → Bool
@@ -64,6 +72,6 @@ same [] (y ∷ ys) = false
 same (x ∷ xs) [] = false
 same (x ∷ xs) (y ∷ ys) = eqb x y && same xs ys
 
-unfoldable pub all-same : List Row → Bool
+unfoldable pub all-same : List Case → Bool
 all-same [] = true
 all-same (row ∷ rows) = same (row .0) (row .1) && all-same rows

@@ -1,7 +1,6 @@
 use mathlib.Core.Path.{_≡_}
 use Prim.Native.Nat.{ℕ, _<_}
 use lib.ListN.{getD}
-use Rattle.carriers.specs.declared.carrier.Carrier.{Carrier}
 use Rattle.carriers.specs.declared.carrier.Carrier.the-variants.{Heard, Struck}
 use Rattle.carriers.specs.Mapper.{point-at}
 use Rattle.carriers.proofs.mapper.map_symbol.Given as given

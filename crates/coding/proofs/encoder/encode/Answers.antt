@@ -1,5 +1,5 @@
-use mathlib.Core.Path.{_≡_, sym, ap, _∙_, subst}
-use Prim.Native.Nat.{ℕ, _%_}
+use mathlib.Core.Path.{sym, ap, _∙_, subst}
+use Prim.Native.Nat.{_%_}
 use lib.ListN.{length}
 use Rattle.frame.specs.declared.rate.CodeRate.{CodeRate}
 use Rattle.coding.specs.Puncturing.{pattern}

@@ -1,10 +1,10 @@
 use native.Mathlib.Omega.{arith}
-use native.Mathlib.Nat.{zero-mul, div-add-mod, mul-comm, add-mul, mul-mod-left}
+use native.Mathlib.Nat.{zero-mul, div-add-mod, mul-comm}
 use mathlib.Core.Path.{_≡_, sym, ap, _∙_, subst}
-use Prim.Native.Nat.{ℕ, _+_, _*_, _/_, _%_, _≤_}
+use Prim.Native.Nat.{ℕ, _*_, _/_}
 use lib.ListN.{length}
-use Rattle.coding.specs.Encoding.{Drawn, Underway}
-use Rattle.coding.proofs.Encoding.{underway-none, all-encoded, period-fits}
+use Rattle.coding.specs.Encoding.{Underway}
+use Rattle.coding.proofs.Encoding.{underway-none, all-encoded}
 use Rattle.coding.proofs.encoder.encode_with.Needs as need
 
 pub loop-k-holds : need.loop-k-holds

@@ -1,12 +1,11 @@
 use borrow.Author.Needs.{needs}
 use native.Mathlib.Omega.{arith}
 use native.Mathlib.Nat.{mul-suc}
-use mathlib.Core.Path.{_≡_, sym, ap, _∙_, subst}
+use mathlib.Core.Path.{_≡_, ap, subst}
 use Prim.Native.Nat.{ℕ, suc, _+_, _*_, _<_}
-use lib.ListN.{length, getD}
-use Rattle.std.proofs.shelf.Lists.{getD-read}
+use lib.ListN.{length}
 use Rattle.coding.specs.Interleaver.{source, Filled}
-use Rattle.coding.proofs.Interleaving.{Within, within, filled-more}
+use Rattle.coding.proofs.Interleaving.{within, read-at, filled-more}
 use Rattle.coding.proofs.interleaver.interleave_group.Needs as need
 
 pub mul-first : need.mul-first
@@ -35,9 +34,7 @@ loop-t-again g c before =
     let b = within (g .COLUMNS) (g .TURN) (g .GROUPS) (length (c .args .from .now)) (c .args .column) (c .args .group) (c .pre .0) (c .pre .3) (c .pre .4) in
     let from = c .args .from .now in
     let first = g .TURN * (g .GROUPS * c .args .column + c .args .group) in
-    let read : (d : g .T .Denot) → c .index-from-source-of .result ≡ getD from (source (g .COLUMNS) (length from) (g .TURN) (first + c .loop-t .t)) d =
-    λ d. getD-read from (c .source-of .result) (c .index-from-source-of .result) (omega arith) (c .index-from-source-of .is) d
-    ∙ ap (λ (k : ℕ). getD from k d) (c .source-of .ensures .value) in
+    let read = read-at from (c .source-of .result) (source (g .COLUMNS) (length from) (g .TURN) (first + c .loop-t .t)) (c .index-from-source-of .result) (omega arith) (c .index-from-source-of .is) (c .source-of .ensures .value) in
     filled-more (g .COLUMNS) (g .TURN) from (c .loop-t .to) first (c .loop-t .t) (c .index-from-source-of .result) (omega arith) (omega arith) read (c .loop-t .inv before)
 
 pub returns : need.returns

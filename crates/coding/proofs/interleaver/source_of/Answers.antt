@@ -1,9 +1,8 @@
 use native.Mathlib.Omega.{arith}
-use native.Mathlib.Nat.{mul-le-mul-right}
 use mathlib.Core.Path.{sym}
-use Prim.Native.Nat.{_+_, _*_, _≤_}
+use Prim.Native.Nat.{_+_, _*_}
 use Rattle.std.proofs.shelf.Bits.{mod-below}
-use Rattle.coding.proofs.Interleaving.{Within, within, source-by, source-fits, scaled}
+use Rattle.coding.proofs.Interleaving.{within, source-by, source-fits, scaled}
 use Rattle.coding.proofs.interleaver.source_of.Needs as need
 
 pub add-t : need.add-t

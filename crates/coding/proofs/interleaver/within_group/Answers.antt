@@ -1,5 +1,4 @@
 use mathlib.Core.Path.{sym}
-use native.Mathlib.Omega.{arith}
 use Rattle.coding.proofs.Interleaving.{turned-below, turned-past}
 use Rattle.coding.proofs.interleaver.within_group.Needs as need
 

@@ -1,8 +1,7 @@
-use mathlib.Core.Path.{_≡_, ap₂}
+use mathlib.Core.Path.{ap₂}
 use Prim.Native.Nat.{ℕ, _+_, _-_, _*_}
 use native.Mathlib.Omega.{arith}
-use Rattle.frame.specs.Rate.{shape}
-use Rattle.frame.specs.Data.{symbols, pads}
+use Rattle.frame.specs.Data.{pads}
 use Rattle.frame.proofs.DataBits.{Full, full}
 use Rattle.frame.proofs.data.pad_count.Needs as need
 

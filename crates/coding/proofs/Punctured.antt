@@ -1,6 +1,6 @@
 -- Which outputs are sent, and how many.
-use mathlib.Core.Path.{_≡_, refl, sym, ap, ap₂, _∙_, subst}
-use mathlib.Core.Bool.{Bool, true, false, not, cond}
+use mathlib.Core.Path.{_≡_, refl, sym, ap, ap₂, _∙_}
+use mathlib.Core.Bool.{Bool, true, false, cond}
 use mathlib.Core.List.{List, [], _∷_, _++_}
 use Prim.Native.Nat.{ℕ, zero, suc, _+_, _-_, _*_, _/_, _%_, _≤_, _<_}
 use native.Mathlib.Nat.{add-assoc, div-add-mod, mul-left-comm, mul-add-mod-self-left, zero-mul, suc-mul}
@@ -10,14 +10,14 @@ use Rattle.std.proofs.shelf.Lists.{append-assoc, append-nil, length-append}
 use Rattle.frame.specs.declared.rate.CodeRate.{CodeRate}
 use Rattle.frame.specs.declared.rate.CodeRate.the-variants as C
 use Rattle.frame.specs.Bits.{bit-of}
-use Rattle.coding.specs.Puncturing.{pattern, sends, kept, punctured-from, sent-count}
+use Rattle.coding.specs.Puncturing.{pattern, sent-of, kept, punctured-from, sent-count}
 
 -- one pair more
 pub count-none : (c : CodeRate) → sent-count c 0 ≡ 0
 unfolding sent-count
 count-none c = refl
 
-pub count-more : (c : CodeRate) (i : ℕ) → sent-count c (i + 1) ≡ sent-count c i + (bit-of (sends c i .0) + bit-of (sends c i .1))
+pub count-more : (c : CodeRate) (i : ℕ) → sent-count c (i + 1) ≡ sent-count c i + (bit-of (sent-of c i .0) + bit-of (sent-of c i .1))
 unfolding sent-count
 count-more c i = ap (sent-count c) (let p : i + 1 ≡ suc i = omega arith in p)
 
@@ -25,8 +25,8 @@ pub count-up : (c : CodeRate) (i k : ℕ) → sent-count c i ≤ sent-count c (i
 count-up c i zero = let p : i ≡ i + 0 = omega arith in omega (arith, ap (sent-count c) p)
 count-up c i (suc k) = let p : i + k + 1 ≡ i + suc k = omega arith in omega (arith, count-up c i k, count-more c (i + k), ap (sent-count c) p)
 
--- what the next pair sends still fits
-pub room : (c : CodeRate) (i n len : ℕ) (w : Bool × Bool) → i < n → len ≡ sent-count c n → w ≡ sends c i → sent-count c i + (bit-of (w .0) + bit-of (w .1)) ≤ len
+-- what the next pair sent-of still fits
+pub room : (c : CodeRate) (i n len : ℕ) (w : Bool × Bool) → i < n → len ≡ sent-count c n → w ≡ sent-of c i → sent-count c i + (bit-of (w .0) + bit-of (w .1)) ≤ len
 room c i n len w h e k =
     let p : i + 1 + (n - (i + 1)) ≡ n = omega arith in
     let f : sent-count c (i + 1) ≡ sent-count c i + (bit-of (w .0) + bit-of (w .1)) = rw k (count-more c i) in
@@ -62,29 +62,29 @@ module _ (send : ℕ → Bool × Bool) where
   punctured-again m h j (x ∷ xs) =
       ap₂ (λ (w : Bool × Bool) (t : List Bool). kept w x ++ t) (h j) (ap (λ (z : ℕ). punctured-from send z xs) (add-assoc m j 1) ∙ punctured-again m h (j + 1) xs)
 
-pub length-punctured : (c : CodeRate) (j : ℕ) (xs : List (Bool × Bool)) → length (punctured-from (sends c) j xs) + sent-count c j ≡ sent-count c (j + length xs)
+pub length-punctured : (c : CodeRate) (j : ℕ) (xs : List (Bool × Bool)) → length (punctured-from (sent-of c) j xs) + sent-count c j ≡ sent-count c (j + length xs)
 length-punctured c j [] = let p : j ≡ j + 0 = omega arith in omega (arith, ap (sent-count c) p)
 length-punctured c j (x ∷ xs) =
     let p : j + 1 + length xs ≡ j + suc (length xs) = omega arith in
-    omega (arith, length-append (kept (sends c j) x) (punctured-from (sends c) (j + 1) xs), kept-length (sends c j) x, length-punctured c (j + 1) xs, count-more c j, ap (sent-count c) p)
+    omega (arith, length-append (kept (sent-of c j) x) (punctured-from (sent-of c) (j + 1) xs), kept-length (sent-of c j) x, length-punctured c (j + 1) xs, count-more c j, ap (sent-count c) p)
 
-pub length-sent : (c : CodeRate) (n : ℕ) (xs : List (Bool × Bool)) → length xs ≡ n → length (punctured-from (sends c) 0 xs) ≡ sent-count c n
+pub length-sent : (c : CodeRate) (n : ℕ) (xs : List (Bool × Bool)) → length xs ≡ n → length (punctured-from (sent-of c) 0 xs) ≡ sent-count c n
 length-sent c n xs e = let p : 0 + length xs ≡ n = omega arith in omega (arith, length-punctured c 0 xs, count-none c, ap (sent-count c) p)
 
 -- a stretch of pairs after which the pattern begins again
-module _ (c : CodeRate) (m : ℕ) (again : (i : ℕ) → sends c (m + i) ≡ sends c i) where
+module _ (c : CodeRate) (m : ℕ) (again : (i : ℕ) → sent-of c (m + i) ≡ sent-of c i) where
   pub count-again : (i : ℕ) → sent-count c (m + i) ≡ sent-count c m + sent-count c i
   count-again zero = let p : m + 0 ≡ m = omega arith in omega (arith, ap (sent-count c) p, count-none c)
   count-again (suc i) =
       let p : m + i + 1 ≡ m + suc i = omega arith in
       let q : i + 1 ≡ suc i = omega arith in
-      let w : bit-of (sends c (m + i) .0) + bit-of (sends c (m + i) .1) ≡ bit-of (sends c i .0) + bit-of (sends c i .1) = ap (λ (x : Bool × Bool). bit-of (x .0) + bit-of (x .1)) (again i) in
+      let w : bit-of (sent-of c (m + i) .0) + bit-of (sent-of c (m + i) .1) ≡ bit-of (sent-of c i .0) + bit-of (sent-of c i .1) = ap (λ (x : Bool × Bool). bit-of (x .0) + bit-of (x .1)) (again i) in
       omega (arith, count-again i, count-more c (m + i), count-more c i, ap (sent-count c) p, ap (sent-count c) q)
 
 -- whole periods
-pub sends-again : (c : CodeRate) (d : ℕ) → d % length (pattern c) ≡ 0 → (k i : ℕ) → sends c (k * d + i) ≡ sends c i
-unfolding sends
-sends-again c d whole k i =
+pub sent-again : (c : CodeRate) (d : ℕ) → d % length (pattern c) ≡ 0 → (k i : ℕ) → sent-of c (k * d + i) ≡ sent-of c i
+unfolding sent-of
+sent-again c d whole k i =
     let p = length (pattern c) in
     let q : d ≡ p * (d / p) = omega (arith, div-add-mod d p) in
     let e : k * d + i ≡ p * (k * (d / p)) + i = ap (λ (z : ℕ). z + i) (ap (λ (z : ℕ). k * z) q ∙ mul-left-comm k p (d / p)) in
@@ -94,5 +94,5 @@ pub count-periods : (c : CodeRate) (d : ℕ) → d % length (pattern c) ≡ 0 �
 count-periods c d whole zero = ap (sent-count c) (zero-mul d) ∙ count-none c ∙ sym (zero-mul (sent-count c d))
 count-periods c d whole (suc k) =
     let p : suc k * d ≡ k * d + d = suc-mul k d in
-    ap (sent-count c) p ∙ count-again c (k * d) (sends-again c d whole k) d
+    ap (sent-count c) p ∙ count-again c (k * d) (sent-again c d whole k) d
     ∙ ap (λ (z : ℕ). z + sent-count c d) (count-periods c d whole k) ∙ sym (suc-mul k (sent-count c d))
