@@ -4,8 +4,11 @@ use crate::annex_g::RATE;
 use crate::annex_g::SEED;
 use carriers::carrier::Carrier;
 use carriers::carrier::Point;
+use coding::encoder::encode;
 use frame::data::fill_data_bits;
 use frame::header::header;
+use frame::rate::CodeRate;
+use frame::rate::Rate;
 use phy::fault::SendFaultDebug;
 use phy::sending::Sending;
 use std::test::*;
@@ -51,10 +54,7 @@ fn bits_of_qam16(point: Point) -> [bool; 4] {
 
 #[test]
 fn signal_bits() -> Result<(), Fail> {
-    check(begin_with(
-        &header(frame::rate::Rate::R36, 100),
-        "101100010011000000000000",
-    ))
+    check(begin_with(&header(Rate::R36, 100), "101100010011000000000000"))
 }
 
 #[test]
@@ -78,6 +78,24 @@ fn scrambled_bits_of_the_first_symbol() -> Result<(), Fail> {
     let published =
         "0110 1100 0001 1001 1000 1001 1000 1111 0110 1000 0010 0001 1111 0100 1010 0101 0110 0001 0100 1111 1101 0111 1010 1110 0010 0100 0000 1100 1111 0011 0011 1010 1110 010";
     check(begin_with(&bits, published))
+}
+
+#[test]
+fn coded_signal() -> Result<(), Fail> {
+    let mut coded = [false; 48];
+    let _ = encode(&header(Rate::R36, 100), CodeRate::Half, 0, &mut coded);
+    check(begin_with(&coded, "110100011010000100000010001111100111000000000000"))
+}
+
+#[test]
+fn coded_bits_of_the_first_symbol() -> Result<(), Fail> {
+    let mut bits = [false; 144];
+    let mut coded = [false; 192];
+    let _ = fill_data_bits(MESSAGE, 93, 0, &mut bits);
+    let _ = encode(&bits, CodeRate::ThreeQuarters, 0, &mut coded);
+    let published =
+        "0010 1011 0000 1000 1010 0001 1111 0000 1001 1101 1011 0101 1001 1010 0001 1101 0100 1010 1111 1011 1110 1000 1100 0010 1000 1111 1100 0000 1100 1000 0111 0011 1100 0000 0100 0011 1110 0000";
+    check(begin_with(&coded, published))
 }
 
 // The first data symbol as the standard prints it after the interleaver: four bits for each of the first 32 carriers.
