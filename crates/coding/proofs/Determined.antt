@@ -1,4 +1,4 @@
--- Coded bits determine the bits: at every step the puncturing sent-of A or B, and both tap the newest bit.
+-- Coded bits determine the bits: at every step the puncturing sends A or B, and both tap the newest bit.
 use mathlib.Core.Path.{_≡_, refl, sym, ap₂, subst}
 use mathlib.Core.Bool.{Bool, true, false, not, _&&_, Bool·beq}
 use mathlib.Core.List.{List, [], _∷_, _++_}
@@ -41,7 +41,7 @@ one-bit s true false h e = absurd (never s h e)
 one-bit s false true h e = absurd (never s h (elim e [ inl a ↦ inl (sym a) | inr b ↦ inr (sym b) ]))
 one-bit s false false h e = refl
 
--- a pattern that sent-of A or B at each step
+-- a pattern that sends A or B at each step
 abbrev pub Sends-some : (ℕ → Bool × Bool) → Type 0
 Sends-some send = (i : ℕ) → (send i .0 ≡ true) ⊎ (send i .1 ≡ true)
 

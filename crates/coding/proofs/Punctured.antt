@@ -25,7 +25,7 @@ pub count-up : (c : CodeRate) (i k : ℕ) → sent-count c i ≤ sent-count c (i
 count-up c i zero = let p : i ≡ i + 0 = omega arith in omega (arith, ap (sent-count c) p)
 count-up c i (suc k) = let p : i + k + 1 ≡ i + suc k = omega arith in omega (arith, count-up c i k, count-more c (i + k), ap (sent-count c) p)
 
--- what the next pair sent-of still fits
+-- what is sent of the next pair still fits
 pub room : (c : CodeRate) (i n len : ℕ) (w : Bool × Bool) → i < n → len ≡ sent-count c n → w ≡ sent-of c i → sent-count c i + (bit-of (w .0) + bit-of (w .1)) ≤ len
 room c i n len w h e k =
     let p : i + 1 + (n - (i + 1)) ≡ n = omega arith in

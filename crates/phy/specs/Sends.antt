@@ -1,4 +1,4 @@
--- What a sending is, by the frame that it sent-of and how far it is; and what its calls do.
+-- What a sending is, by the frame that it sends and how far it is; and what its calls do.
 use mathlib.Core.Path.{_≡_}
 use mathlib.Core.List.{List}
 use Prim.Native.Nat.{ℕ, _+_, _-_, _*_, _<_}
@@ -17,7 +17,8 @@ use Rattle.phy.specs.declared.sending.Sending.{Sending}
 use Rattle.phy.specs.Fault.{making-refused, symbol-refused}
 use Rattle.phy.specs.Symbols.{sent-symbol, symbols-in-all}
 
--- s sent-of the octets at this rate from this seed, and has n symbols behind it
+-- s sends the octets at this rate from this seed, and has n symbols behind it: the header and n - 1 data symbols, whose bits
+-- the scrambler and the coder have gone through. (Where n is 0, so is n - 1, and they have gone through none.)
 pub record Sends (s : Sending) (r : Rate) (seed : ℕ) (octets : List ℕ) (n : ℕ) : Type 0 where
   pub rated : s .rate ≡ r
   pub lent : s .bytes .now ≡ octets
@@ -28,7 +29,7 @@ pub record Sends (s : Sending) (r : Rate) (seed : ℕ) (octets : List ℕ) (n : 
   pub held : s .state ≡ state-from 0 (data-bits seed octets 0 ((n - 1) * n-dbps (shape r)))
   pub six-bits : s .state < 64
 
--- making a sending: it is refused as the faults say, and by no other rule, or it sent-of this frame from its first symbol on
+-- making a sending: it is refused as the faults say, and by no other rule, or it sends this frame from its first symbol on
 abbrev pub Made : ℕ → ℕ → List ℕ → Result Sending SendFault → Type 0
 Made number seed octets (Ok s) = (making-refused number seed (length octets) ≡ None) × ((r : Rate) → rate-of number ≡ Some r → Sends s r seed octets 0)
 Made number seed octets (Err fault) = making-refused number seed (length octets) ≡ Some fault

@@ -3,8 +3,8 @@ use frame::rate::Rate;
 
 pub mod calls;
 
-// A few plain numbers beside the lent bytes, so that no symbol costs more than another. What they stand for is the
-// relation `Sends` of the contracts.
+// A few plain numbers beside the lent bytes, so that what a data symbol costs does not depend on its number. What they
+// stand for is the relation `Sends` of the contracts.
 #[derive(Drop)]
 pub struct Sending<'a> {
     pub(crate) bytes: &'a [u8],
