@@ -1,4 +1,4 @@
-// The example of Annex G: what is sent against what the standard prints.
+// The example of Annex G: what is sent against what the standard prints, as far as that was remembered.
 use crate::annex_g::MESSAGE;
 use crate::annex_g::RATE;
 use crate::annex_g::SEED;
