@@ -73,8 +73,8 @@ fn demap_axis(modulation: Modulation, r: i16, out: &mut [SoftBit])
 
 // The values of a point's bits: those on I first.
 fn demap_point(modulation: Modulation, point: Point, out: &mut [SoftBit])
-    requires i_value { Ieee.is_nan point.i ≡ false }
-    requires q_value { Ieee.is_nan point.q ≡ false }
+    requires i_number { Ieee.is_nan point.i ≡ false }
+    requires q_number { Ieee.is_nan point.q ≡ false }
     requires out_len { length out.old ≡ n_bpsc modulation }
     ensures { out.new ≡ map Value (point_values modulation point) }
 {
@@ -99,7 +99,7 @@ fn erase(out: &mut [SoftBit])
 
 // What a carrier says of its bits.
 fn demap_carrier(modulation: Modulation, carrier: Carrier, out: &mut [SoftBit])
-    requires carrier_value { bad_axis carrier ≡ None }
+    requires is_number { bad_axis carrier ≡ None }
     requires out_len { length out.old ≡ n_bpsc modulation }
     ensures { out.new ≡ soft_bits modulation carrier }
 {
@@ -115,8 +115,8 @@ fn demap_carriers<const BITS: usize>(
     carriers: &[Carrier],
     out: &mut [SoftBit],
 )
-    requires value { BITS ≡ n_bpsc modulation }
-    requires carriers_value { carrier_fault carriers.now ≡ None }
+    requires bits_value { BITS ≡ n_bpsc modulation }
+    requires are_numbers { carrier_fault carriers.now ≡ None }
     requires out_len { length out.old ≡ length carriers.now * n_bpsc modulation }
     ensures { out.new ≡ demapped modulation carriers.now }
 {
@@ -129,7 +129,7 @@ fn demap_carriers<const BITS: usize>(
 // What the carriers of a symbol say of its bits: carrier n of those from place n N_BPSC on. Each modulation has a loop of its
 // own, so that no carrier asks for it again.
 pub fn demap_symbol(modulation: Modulation, carriers: &[Carrier], out: &mut [SoftBit])
-    requires carriers_value { carrier_fault carriers.now ≡ None }
+    requires are_numbers { carrier_fault carriers.now ≡ None }
     requires out_len { length out.old ≡ length carriers.now * n_bpsc modulation }
     ensures { out.new ≡ demapped modulation carriers.now }
 {

@@ -1,4 +1,5 @@
 // The chain as a program: sends a built-in example, or sends a file into a recording.
+#![tactic(auto)]
 use arguments::Command;
 use failure::Failure;
 

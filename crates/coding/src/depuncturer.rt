@@ -37,10 +37,10 @@ fn depuncture_period<T: Copy, const PERIOD: usize, const A: u8, const B: u8>(
     out: &mut [(T, T)],
 ) -> usize
     requires drawn { Drawn code_rate PERIOD A B }
-    requires first_value { first % PERIOD ≡ 0 }
-    requires first_in_bounds { first + PERIOD ≤ length out.old }
+    requires first_aligned { first % PERIOD ≡ 0 }
+    requires fits { first + PERIOD ≤ length out.old }
     requires sent_len { length sent.now ≡ sent_count code_rate (length out.old) }
-    requires at_before_value { at_before ≡ sent_count code_rate first }
+    requires counted { at_before ≡ sent_count code_rate first }
     ensures after { result ≡ sent_count code_rate (first + PERIOD) }
     ensures pairs { Restored hole code_rate sent.now out.old first → Restored hole code_rate sent.now out.new (first + PERIOD) }
 {
@@ -63,7 +63,7 @@ fn depuncture_with<T: Copy, const PERIOD: usize, const A: u8, const B: u8>(
     out: &mut [(T, T)],
 )
     requires drawn { Drawn code_rate PERIOD A B }
-    requires out_len { length out.old % PERIOD ≡ 0 }
+    requires whole_periods { length out.old % PERIOD ≡ 0 }
     requires sent_len { length sent.now ≡ sent_count code_rate (length out.old) }
     ensures { out.new ≡ depunctured hole code_rate (length out.old) sent.now }
 {
@@ -75,7 +75,7 @@ fn depuncture_with<T: Copy, const PERIOD: usize, const A: u8, const B: u8>(
 
 // Restores the pairs, whole periods of the pattern, of which `sent` was sent: a stolen bit is put back as the hole.
 pub fn depuncture<T: Copy>(sent: &[T], code_rate: CodeRate, hole: T, out: &mut [(T, T)])
-    requires code_rate_len { length out.old % length (pattern code_rate) ≡ 0 }
+    requires whole_periods { length out.old % length (pattern code_rate) ≡ 0 }
     requires sent_len { length sent.now ≡ sent_count code_rate (length out.old) }
     ensures { out.new ≡ depunctured hole code_rate (length out.old) sent.now }
 {

@@ -19,8 +19,8 @@ fn encode_period<const PERIOD: usize, const A: u8, const B: u8>(
     out: &mut [bool],
 ) -> (u8, usize)
     requires drawn { Drawn code_rate PERIOD A B }
-    requires first_value { first % PERIOD ≡ 0 }
-    requires first_in_bounds { first + PERIOD ≤ length bits.now }
+    requires first_aligned { first % PERIOD ≡ 0 }
+    requires fits { first + PERIOD ≤ length bits.now }
     requires underway { Underway bits.now code_rate state first held_before at_before out.old }
     ensures { Underway bits.now code_rate state (first + PERIOD) result.0 result.1 out.new }
 {
@@ -45,7 +45,7 @@ fn encode_with<const PERIOD: usize, const A: u8, const B: u8>(
     out: &mut [bool],
 ) -> u8
     requires drawn { Drawn code_rate PERIOD A B }
-    requires bits_len { length bits.now % PERIOD ≡ 0 }
+    requires whole_periods { length bits.now % PERIOD ≡ 0 }
     requires state_bound { state < 64 }
     requires out_len { length out.old ≡ sent_count code_rate (length bits.now) }
     ensures { Encoded bits.now code_rate state result out.new }
@@ -71,7 +71,7 @@ fn encode_with<const PERIOD: usize, const A: u8, const B: u8>(
 // Codes `bits`, whole periods of the pattern, from the state before them into `out`, and returns the state after them.
 pub fn encode(bits: &[bool], code_rate: CodeRate, state: u8, out: &mut [bool]) -> u8
     requires state_bound { state < 64 }
-    requires code_rate_len { length bits.now % length (pattern code_rate) ≡ 0 }
+    requires whole_periods { length bits.now % length (pattern code_rate) ≡ 0 }
     requires out_len { length out.old ≡ sent_count code_rate (length bits.now) }
     ensures { Encoded bits.now code_rate state result out.new }
 {

@@ -1,3 +1,5 @@
+#![tactic(auto)]
+
 pub mod coder;
 pub mod depuncturer;
 pub mod encoder;

@@ -13,8 +13,8 @@ pub(crate) fn sent_of<const A: u8, const B: u8>(t: usize) -> (bool, bool)
 
 // Writes the bit at `at` if it is sent, and says where the next one goes.
 pub(crate) fn put(out: &mut [bool], at: usize, send: bool, bit: bool) -> usize
-    requires at_in_bounds { send ≡ true → at < length out.old }
-    requires at_in_bounds_2 { at ≤ length out.old }
+    requires fits_if_sent { send ≡ true → at < length out.old }
+    requires within { at ≤ length out.old }
     ensures { Put out.old at send bit result out.new }
 {
     if send {

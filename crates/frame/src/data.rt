@@ -66,8 +66,8 @@ fn write_four(plain: u8, key: u8, at: usize, out: &mut [bool])
 
 // Writes the data bits from `start` on, from the register before them, and returns the register after them.
 pub fn fill_data_bits(bytes: &[u8], register: u8, start: usize, out: &mut [bool]) -> u8
-    requires start_value { start % 4 ≡ 0 }
-    requires out_value { len out.old % 4 ≡ 0 }
+    requires start_aligned { start % 4 ≡ 0 }
+    requires out_aligned { len out.old % 4 ≡ 0 }
     requires out_bound { start + len out.old < 2 ^ 64 }
     ensures bits { out.new ≡ bits_under bytes.now register start (len out.old) }
     ensures moved { result ≡ register_after register (len out.old) }

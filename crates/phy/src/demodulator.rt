@@ -39,7 +39,7 @@ fn demodulate_coded<const N: usize>(
     carriers: &[Carrier],
     pairs: &mut [(SoftBit, SoftBit)],
 )
-    requires value { N ≡ 48 * n_bpsc modulation }
+    requires n_value { N ≡ 48 * n_bpsc modulation }
     requires ready { Ready modulation code_rate carriers.now (length pairs.old) }
     ensures { pairs.new ≡ demodulated (shaped modulation code_rate) carriers.now }
 {

@@ -1,3 +1,4 @@
+#![tactic(auto)]
 pub mod demodulator;
 pub mod fault;
 pub mod sending;

@@ -37,7 +37,7 @@ fn write_data(
     state: u8,
     out: &mut [Carrier],
 ) -> (u8, u8)
-    requires out_value { len out.old ≡ 48 }
+    requires out_len { len out.old ≡ 48 }
     requires state_bound { state < 64 }
     ensures { DataWritten bytes.now rate k register state result out.new }
 {

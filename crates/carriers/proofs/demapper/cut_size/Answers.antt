@@ -3,11 +3,11 @@ use Rattle.std.proofs.lemmas.Int.{ints}
 use Rattle.carriers.proofs.WholePart.{nears}
 use Rattle.carriers.proofs.demapper.cut_size.Goals as goal
 
-pub float-to-int-whole : goal.float-to-int-whole
-float-to-int-whole c = (nears c.args.size c.requires.small c.requires.above).casts
+pub float_to_int-whole : goal.float_to_int-whole
+float_to_int-whole c = (nears c.args.size c.requires.small c.requires.above).casts
 
-pub overflow-sub-result : goal.overflow-sub-result
-overflow-sub-result c =
+pub overflow_sub-result : goal.overflow_sub-result
+overflow_sub-result c =
     let near = nears c.args.size c.requires.small c.requires.above in
     let is = near.to in
     let small = near.small in

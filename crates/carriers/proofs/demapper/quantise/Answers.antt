@@ -5,8 +5,8 @@ use Rattle.carriers.specs.Demapper.{AtMost, whole_part, quantised}
 use Rattle.carriers.proofs.Quantised.{scales, quantised_bound}
 use Rattle.carriers.proofs.demapper.quantise.Goals as goal
 
-pub whole-part-requires : goal.whole-part-requires
-whole-part-requires c =
+pub whole_part-requires : goal.whole_part-requires
+whole_part-requires c =
     let x = c.args.coordinate in
     let held : T (fits binary32 x) = search rules in
     subst (λ (y : Float). AtMost 128 (mul binary32 y (of_bits binary32 0x4180_0000))) (sym c.clamp-limited.ensures.value) (scales x held c.requires).0
@@ -15,7 +15,7 @@ pub returns : goal.returns
 returns c =
     let x = c.args.coordinate in
     let held : T (fits binary32 x) = search rules in
-    let v : to_z w16 (of_z w16 c.whole-part.result) ≡ quantised x =
-    to_z-of_z w16 c.whole-part.result (search rules) ∙ c.whole-part.ensures
+    let v : to_z w16 (of_z w16 c.whole_part.result) ≡ quantised x =
+    to_z-of_z w16 c.whole_part.result (search rules) ∙ c.whole_part.ensures
     ∙ ap (λ (y : Float). whole_part (mul binary32 y (of_bits binary32 0x4180_0000))) c.clamp-limited.ensures.value ∙ (scales x held c.requires).1 in
     record { value = v; bound = subst (λ (z : ℤ). nat_abs z ≤ 128) (sym v) (quantised_bound x) }

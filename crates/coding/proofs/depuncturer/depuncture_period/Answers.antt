@@ -19,37 +19,37 @@ pub taken-a-requires : goal.taken-a-requires
 taken-a-requires g c =
     let rate = c.args.code_rate in
     let i = c.args.first + c.loop-t.t in
-    let send : c.sent-of-a-sent.result ≡ sent_of rate i =
-    drawn_at rate g.row.PERIOD g.row.A g.row.B c.args.first c.loop-t.t c.sent-of-a-sent.result c.requires.0 c.requires.1 (omega arith) c.sent-of-a-sent.ensures.0 c.sent-of-a-sent.ensures.1 in
-    let r = room rate i (length c.args.out.now) (length c.args.sent.now) c.sent-of-a-sent.result (omega arith) c.requires.3 send in
-    let at = (c.loop-t.invariant rate c.requires.0 c.requires.4).0 in
-    λ e. omega (arith, r, at, bit_true c.sent-of-a-sent.result.0 e)
+    let send : c.sent_of-a_sent.result ≡ sent_of rate i =
+    drawn_at rate g.row.PERIOD g.row.A g.row.B c.args.first c.loop-t.t c.sent_of-a_sent.result c.requires.drawn c.requires.first_aligned (omega arith) c.sent_of-a_sent.ensures.0 c.sent_of-a_sent.ensures.1 in
+    let r = room rate i (length c.args.out.now) (length c.args.sent.now) c.sent_of-a_sent.result (omega arith) c.requires.sent_len send in
+    let at = (c.loop-t.invariant rate c.requires.drawn c.requires.counted).0 in
+    λ e. omega (arith, r, at, bit_true c.sent_of-a_sent.result.0 e)
 
 pub taken-b-requires : goal.taken-b-requires
 taken-b-requires g c =
     let rate = c.args.code_rate in
     let i = c.args.first + c.loop-t.t in
-    let send : c.sent-of-a-sent.result ≡ sent_of rate i =
-    drawn_at rate g.row.PERIOD g.row.A g.row.B c.args.first c.loop-t.t c.sent-of-a-sent.result c.requires.0 c.requires.1 (omega arith) c.sent-of-a-sent.ensures.0 c.sent-of-a-sent.ensures.1 in
-    let r = room rate i (length c.args.out.now) (length c.args.sent.now) c.sent-of-a-sent.result (omega arith) c.requires.3 send in
-    let at = (c.loop-t.invariant rate c.requires.0 c.requires.4).0 in
-    λ e. omega (arith, r, at, c.taken-a.ensures.after, bit_true c.sent-of-a-sent.result.1 e)
+    let send : c.sent_of-a_sent.result ≡ sent_of rate i =
+    drawn_at rate g.row.PERIOD g.row.A g.row.B c.args.first c.loop-t.t c.sent_of-a_sent.result c.requires.drawn c.requires.first_aligned (omega arith) c.sent_of-a_sent.ensures.0 c.sent_of-a_sent.ensures.1 in
+    let r = room rate i (length c.args.out.now) (length c.args.sent.now) c.sent_of-a_sent.result (omega arith) c.requires.sent_len send in
+    let at = (c.loop-t.invariant rate c.requires.drawn c.requires.counted).0 in
+    λ e. omega (arith, r, at, c.taken-a.ensures.after, bit_true c.sent_of-a_sent.result.1 e)
 
 pub loop-t-preserved : goal.loop-t-preserved
 loop-t-preserved g c rate d e =
     let sent = c.args.sent.now in
     let hole = c.args.hole in
     let i = c.args.first + c.loop-t.t in
-    let send : c.sent-of-a-sent.result ≡ sent_of rate i =
-    drawn_at rate g.row.PERIOD g.row.A g.row.B c.args.first c.loop-t.t c.sent-of-a-sent.result d c.requires.1 (omega arith) c.sent-of-a-sent.ensures.0 c.sent-of-a-sent.ensures.1 in
+    let send : c.sent_of-a_sent.result ≡ sent_of rate i =
+    drawn_at rate g.row.PERIOD g.row.A g.row.B c.args.first c.loop-t.t c.sent_of-a_sent.result d c.requires.first_aligned (omega arith) c.sent_of-a_sent.ensures.0 c.sent_of-a_sent.ensures.1 in
     let at = (c.loop-t.invariant rate d e).0 in
     let next : i + 1 ≡ c.args.first + (c.loop-t.t + 1) = omega arith in
-    let more : sent_count rate (i + 1) ≡ sent_count rate i + (bit_of c.sent-of-a-sent.result.0 + bit_of c.sent-of-a-sent.result.1) = rw send (count_more rate i) in
+    let more : sent_count rate (i + 1) ≡ sent_count rate i + (bit_of c.sent_of-a_sent.result.0 + bit_of c.sent_of-a_sent.result.1) = rw send (count_more rate i) in
     let count : c.taken-b.result.1 ≡ sent_count rate (i + 1) = omega (arith, more, at, c.taken-a.ensures.after, c.taken-b.ensures.after) in (
       count ∙ ap (sent_count rate) next,
       λ before.
           subst (λ (n : ℕ). Restored hole rate sent (set c.loop-t.out i (c.taken-a.result.0, c.taken-b.result.0)) n) next
-          (restored_more hole rate sent c.loop-t.out i c.loop-t.at c.taken-a.result.1 c.taken-a.result.0 c.taken-b.result.0 c.sent-of-a-sent.result
+          (restored_more hole rate sent c.loop-t.out i c.loop-t.at c.taken-a.result.1 c.taken-a.result.0 c.taken-b.result.0 c.sent_of-a_sent.result
           (omega arith) send at c.taken-a.ensures.after c.taken-a.ensures.bit c.taken-b.ensures.bit ((c.loop-t.invariant rate d e).1 before)),
     )
 
@@ -57,7 +57,7 @@ pub returns : goal.returns
 returns g c =
     let rate = c.args.code_rate in
     let all : c.args.first + c.loop-t.t ≡ c.args.first + g.row.PERIOD = omega arith in
-    let inv = c.loop-t.invariant rate c.requires.0 c.requires.4 in
+    let inv = c.loop-t.invariant rate c.requires.drawn c.requires.counted in
     record {
       after = inv.0 ∙ ap (sent_count rate) all;
       pairs = λ before. subst (λ (n : ℕ). Restored c.args.hole rate c.args.sent.now c.loop-t.out n) all (inv.1 before);

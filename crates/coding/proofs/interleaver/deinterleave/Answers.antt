@@ -7,6 +7,6 @@ returns g c =
     let from = c.args.from.now in
     let to = c.permute.new.to in
     record {
-      value = taken_back g.row.COLUMNS g.row.TURN g.row.GROUPS from c.requires.0 to (omega arith) c.permute.ensures;
-      placed = stood g.row.COLUMNS g.row.TURN g.row.GROUPS from c.requires.0 to (omega arith) c.permute.ensures;
+      value = taken_back g.row.COLUMNS g.row.TURN g.row.GROUPS from c.requires.grid to (omega arith) c.permute.ensures;
+      placed = stood g.row.COLUMNS g.row.TURN g.row.GROUPS from c.requires.grid to (omega arith) c.permute.ensures;
     }

@@ -12,7 +12,7 @@ pub loop-group-preserved : goal.loop-group-preserved
 loop-group-preserved g c before =
     let w = g.row.GROUPS * c.args.column in
     let e : w + c.loop-group.group + 1 ≡ w + (c.loop-group.group + 1) = omega arith in
-    subst (λ (m : ℕ). Filled g.row.COLUMNS g.row.TURN c.args.from.now c.interleave-group.new.to (g.row.TURN * m)) e (c.interleave-group.ensures (c.loop-group.invariant before))
+    subst (λ (m : ℕ). Filled g.row.COLUMNS g.row.TURN c.args.from.now c.interleave_group.new.to (g.row.TURN * m)) e (c.interleave_group.ensures (c.loop-group.invariant before))
 
 pub returns : goal.returns
 returns g c before =

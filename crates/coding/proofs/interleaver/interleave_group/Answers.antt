@@ -3,34 +3,34 @@ use Rattle.coding.specs.Interleaver.{source, Filled}
 use Rattle.coding.proofs.Interleaving.{within, read_at, filled_more}
 use Rattle.coding.proofs.interleaver.interleave_group.Goals as goal
 
-pub overflow-mul-first : goal.overflow-mul-first
-overflow-mul-first g c = let b = within g.row.COLUMNS g.row.TURN g.row.GROUPS (length c.args.from.now) c.args.column c.args.group c.requires.0 c.requires.3 c.requires.4 in omega arith
+pub overflow_mul-first : goal.overflow_mul-first
+overflow_mul-first g c = let b = within g.row.COLUMNS g.row.TURN g.row.GROUPS (length c.args.from.now) c.args.column c.args.group c.requires.grid c.requires.column_bound c.requires.group_bound in omega arith
 
-pub overflow-add-first : goal.overflow-add-first
-overflow-add-first g c = let b = within g.row.COLUMNS g.row.TURN g.row.GROUPS (length c.args.from.now) c.args.column c.args.group c.requires.0 c.requires.3 c.requires.4 in omega arith
+pub overflow_add-first : goal.overflow_add-first
+overflow_add-first g c = let b = within g.row.COLUMNS g.row.TURN g.row.GROUPS (length c.args.from.now) c.args.column c.args.group c.requires.grid c.requires.column_bound c.requires.group_bound in omega arith
 
-pub overflow-mul-first-2 : goal.overflow-mul-first-2
-overflow-mul-first-2 g c = let b = within g.row.COLUMNS g.row.TURN g.row.GROUPS (length c.args.from.now) c.args.column c.args.group c.requires.0 c.requires.3 c.requires.4 in omega arith
+pub overflow_mul-first-2 : goal.overflow_mul-first-2
+overflow_mul-first-2 g c = let b = within g.row.COLUMNS g.row.TURN g.row.GROUPS (length c.args.from.now) c.args.column c.args.group c.requires.grid c.requires.column_bound c.requires.group_bound in omega arith
 
-pub overflow-add-first-in-loop-t : goal.overflow-add-first-in-loop-t
-overflow-add-first-in-loop-t g c = let b = within g.row.COLUMNS g.row.TURN g.row.GROUPS (length c.args.from.now) c.args.column c.args.group c.requires.0 c.requires.3 c.requires.4 in omega arith
+pub overflow_add-first-in-loop-t : goal.overflow_add-first-in-loop-t
+overflow_add-first-in-loop-t g c = let b = within g.row.COLUMNS g.row.TURN g.row.GROUPS (length c.args.from.now) c.args.column c.args.group c.requires.grid c.requires.column_bound c.requires.group_bound in omega arith
 
 pub bounds-to-first : goal.bounds-to-first
-bounds-to-first g c = let b = within g.row.COLUMNS g.row.TURN g.row.GROUPS (length c.args.from.now) c.args.column c.args.group c.requires.0 c.requires.3 c.requires.4 in omega arith
+bounds-to-first g c = let b = within g.row.COLUMNS g.row.TURN g.row.GROUPS (length c.args.from.now) c.args.column c.args.group c.requires.grid c.requires.column_bound c.requires.group_bound in omega arith
 
-pub offset-bounds-to-first : goal.offset-bounds-to-first
-offset-bounds-to-first g c =
-    let b = within g.row.COLUMNS g.row.TURN g.row.GROUPS (length c.args.from.now) c.args.column c.args.group c.requires.0 c.requires.3 c.requires.4 in
+pub offset_bounds-to-first : goal.offset_bounds-to-first
+offset_bounds-to-first g c =
+    let b = within g.row.COLUMNS g.row.TURN g.row.GROUPS (length c.args.from.now) c.args.column c.args.group c.requires.grid c.requires.column_bound c.requires.group_bound in
     let h : g.row.TURN * (g.row.GROUPS * c.args.column + c.args.group) + c.loop-t.t < length c.loop-t.to = omega arith in
     search rules
 
 pub loop-t-preserved : goal.loop-t-preserved
 loop-t-preserved g c before =
-    let b = within g.row.COLUMNS g.row.TURN g.row.GROUPS (length c.args.from.now) c.args.column c.args.group c.requires.0 c.requires.3 c.requires.4 in
+    let b = within g.row.COLUMNS g.row.TURN g.row.GROUPS (length c.args.from.now) c.args.column c.args.group c.requires.grid c.requires.column_bound c.requires.group_bound in
     let from = c.args.from.now in
     let first = g.row.TURN * (g.row.GROUPS * c.args.column + c.args.group) in
-    let read = read_at from c.source-of.result (source g.row.COLUMNS (length from) g.row.TURN (first + c.loop-t.t)) c.index-from-source-of.result (omega arith) c.index-from-source-of.is c.source-of.ensures.value in
-    filled_more g.row.COLUMNS g.row.TURN from c.loop-t.to first c.loop-t.t c.index-from-source-of.result (omega arith) (omega arith) read (c.loop-t.invariant before)
+    let read = read_at from c.source_of.result (source g.row.COLUMNS (length from) g.row.TURN (first + c.loop-t.t)) c.index-from-source_of.result (omega arith) c.index-from-source_of.is c.source_of.ensures.value in
+    filled_more g.row.COLUMNS g.row.TURN from c.loop-t.to first c.loop-t.t c.index-from-source_of.result (omega arith) (omega arith) read (c.loop-t.invariant before)
 
 pub returns : goal.returns
 returns g c before =

@@ -12,11 +12,11 @@ loop-column-preserved g c =
     let w = g.row.GROUPS in
     let k = c.loop-column.column in
     let e : w * k + w ≡ w * (k + 1) = sym (mul-suc w k) ∙ ap (λ (z : ℕ). w * z) (let p : suc k ≡ k + 1 = omega arith in p) in
-    subst (λ (m : ℕ). Moved (flag g.row.BACK) g.row.COLUMNS g.row.TURN c.args.from.now c.permute-column.new.to (g.row.TURN * m)) e (c.permute-column.ensures c.loop-column.invariant)
+    subst (λ (m : ℕ). Moved (flag g.row.BACK) g.row.COLUMNS g.row.TURN c.args.from.now c.permute_column.new.to (g.row.TURN * m)) e (c.permute_column.ensures c.loop-column.invariant)
 
 pub returns : goal.returns
 returns g c =
-    let grid = c.requires.0 in
+    let grid = c.requires.grid in
     let p : c.loop-column.column ≡ g.row.COLUMNS = omega arith in
     let all : g.row.TURN * (g.row.GROUPS * c.loop-column.column) ≡ length c.args.from.now =
     omega (arith, grid.whole, whole_groups g.row.COLUMNS g.row.TURN g.row.GROUPS grid.some_columns grid.some_size grid.some_groups, ap (λ (z : ℕ). g.row.TURN * (g.row.GROUPS * z)) p, ap (λ (z : ℕ). g.row.TURN * z) (mul_comm g.row.GROUPS g.row.COLUMNS)) in

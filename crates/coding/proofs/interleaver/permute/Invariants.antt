@@ -1,6 +1,6 @@
 use Rattle.std.proofs.Common.{◌*◌}
 use Rattle.coding.specs.Interleaver.{Moved}
-use Rattle.coding.proofs.Interleaving.{flag}
+use Rattle.coding.proofs.Deinterleaving.{flag}
 use Rattle.coding.proofs.interleaver.permute.Given as goal
 
 abbrev pub invariant-loop-column : goal.invariant-loop-column

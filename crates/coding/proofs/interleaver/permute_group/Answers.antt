@@ -4,46 +4,46 @@ use Rattle.coding.proofs.Interleaving.{within, read_at}
 use Rattle.coding.proofs.Deinterleaving.{flag, ends_at, moved_more}
 use Rattle.coding.proofs.interleaver.permute_group.Goals as goal
 
-pub overflow-mul-first : goal.overflow-mul-first
-overflow-mul-first g c = let b = within g.row.COLUMNS g.row.TURN g.row.GROUPS (length c.args.from.now) c.args.column c.args.group c.requires.0 c.requires.3 c.requires.4 in omega arith
+pub overflow_mul-first : goal.overflow_mul-first
+overflow_mul-first g c = let b = within g.row.COLUMNS g.row.TURN g.row.GROUPS (length c.args.from.now) c.args.column c.args.group c.requires.grid c.requires.column_bound c.requires.group_bound in omega arith
 
-pub overflow-add-first : goal.overflow-add-first
-overflow-add-first g c = let b = within g.row.COLUMNS g.row.TURN g.row.GROUPS (length c.args.from.now) c.args.column c.args.group c.requires.0 c.requires.3 c.requires.4 in omega arith
+pub overflow_add-first : goal.overflow_add-first
+overflow_add-first g c = let b = within g.row.COLUMNS g.row.TURN g.row.GROUPS (length c.args.from.now) c.args.column c.args.group c.requires.grid c.requires.column_bound c.requires.group_bound in omega arith
 
-pub overflow-mul-first-2 : goal.overflow-mul-first-2
-overflow-mul-first-2 g c = let b = within g.row.COLUMNS g.row.TURN g.row.GROUPS (length c.args.from.now) c.args.column c.args.group c.requires.0 c.requires.3 c.requires.4 in omega arith
+pub overflow_mul-first-2 : goal.overflow_mul-first-2
+overflow_mul-first-2 g c = let b = within g.row.COLUMNS g.row.TURN g.row.GROUPS (length c.args.from.now) c.args.column c.args.group c.requires.grid c.requires.column_bound c.requires.group_bound in omega arith
 
-pub overflow-add-first-in-loop-t : goal.overflow-add-first-in-loop-t
-overflow-add-first-in-loop-t g c = let b = within g.row.COLUMNS g.row.TURN g.row.GROUPS (length c.args.from.now) c.args.column c.args.group c.requires.0 c.requires.3 c.requires.4 in omega arith
+pub overflow_add-first-in-loop-t : goal.overflow_add-first-in-loop-t
+overflow_add-first-in-loop-t g c = let b = within g.row.COLUMNS g.row.TURN g.row.GROUPS (length c.args.from.now) c.args.column c.args.group c.requires.grid c.requires.column_bound c.requires.group_bound in omega arith
 
 pub bounds-from-origin : goal.bounds-from-origin
 bounds-from-origin g c =
-    let b = within g.row.COLUMNS g.row.TURN g.row.GROUPS (length c.args.from.now) c.args.column c.args.group c.requires.0 c.requires.3 c.requires.4 in
-    let e = ends_at (flag g.row.BACK) g.row.COLUMNS g.row.TURN g.row.GROUPS (length c.args.from.now) (g.row.TURN * (g.row.GROUPS * c.args.column + c.args.group) + c.loop-t.t) c.source-of-source.result c.ends-origin.result.0 c.ends-origin.result.1 c.requires.0 (omega arith) c.source-of-source.ensures.value c.ends-origin.ensures.0 c.ends-origin.ensures.1 in
+    let b = within g.row.COLUMNS g.row.TURN g.row.GROUPS (length c.args.from.now) c.args.column c.args.group c.requires.grid c.requires.column_bound c.requires.group_bound in
+    let e = ends_at (flag g.row.BACK) g.row.COLUMNS g.row.TURN g.row.GROUPS (length c.args.from.now) (g.row.TURN * (g.row.GROUPS * c.args.column + c.args.group) + c.loop-t.t) c.source_of-source.result c.ends-origin.result.0 c.ends-origin.result.1 c.requires.grid (omega arith) c.source_of-source.ensures.value c.ends-origin.ensures.0 c.ends-origin.ensures.1 in
     omega (arith, e.origin_fits)
 
-pub offset-bounds-from-origin : goal.offset-bounds-from-origin
-offset-bounds-from-origin g c =
-    let b = within g.row.COLUMNS g.row.TURN g.row.GROUPS (length c.args.from.now) c.args.column c.args.group c.requires.0 c.requires.3 c.requires.4 in
-    let e = ends_at (flag g.row.BACK) g.row.COLUMNS g.row.TURN g.row.GROUPS (length c.args.from.now) (g.row.TURN * (g.row.GROUPS * c.args.column + c.args.group) + c.loop-t.t) c.source-of-source.result c.ends-origin.result.0 c.ends-origin.result.1 c.requires.0 (omega arith) c.source-of-source.ensures.value c.ends-origin.ensures.0 c.ends-origin.ensures.1 in
+pub offset_bounds-from-origin : goal.offset_bounds-from-origin
+offset_bounds-from-origin g c =
+    let b = within g.row.COLUMNS g.row.TURN g.row.GROUPS (length c.args.from.now) c.args.column c.args.group c.requires.grid c.requires.column_bound c.requires.group_bound in
+    let e = ends_at (flag g.row.BACK) g.row.COLUMNS g.row.TURN g.row.GROUPS (length c.args.from.now) (g.row.TURN * (g.row.GROUPS * c.args.column + c.args.group) + c.loop-t.t) c.source_of-source.result c.ends-origin.result.0 c.ends-origin.result.1 c.requires.grid (omega arith) c.source_of-source.ensures.value c.ends-origin.ensures.0 c.ends-origin.ensures.1 in
     let h : c.ends-origin.result.0 < length c.args.from.now = e.origin_fits in search rules
 
 pub bounds-to-target : goal.bounds-to-target
 bounds-to-target g c =
-    let b = within g.row.COLUMNS g.row.TURN g.row.GROUPS (length c.args.from.now) c.args.column c.args.group c.requires.0 c.requires.3 c.requires.4 in
-    let e = ends_at (flag g.row.BACK) g.row.COLUMNS g.row.TURN g.row.GROUPS (length c.args.from.now) (g.row.TURN * (g.row.GROUPS * c.args.column + c.args.group) + c.loop-t.t) c.source-of-source.result c.ends-origin.result.0 c.ends-origin.result.1 c.requires.0 (omega arith) c.source-of-source.ensures.value c.ends-origin.ensures.0 c.ends-origin.ensures.1 in
+    let b = within g.row.COLUMNS g.row.TURN g.row.GROUPS (length c.args.from.now) c.args.column c.args.group c.requires.grid c.requires.column_bound c.requires.group_bound in
+    let e = ends_at (flag g.row.BACK) g.row.COLUMNS g.row.TURN g.row.GROUPS (length c.args.from.now) (g.row.TURN * (g.row.GROUPS * c.args.column + c.args.group) + c.loop-t.t) c.source_of-source.result c.ends-origin.result.0 c.ends-origin.result.1 c.requires.grid (omega arith) c.source_of-source.ensures.value c.ends-origin.ensures.0 c.ends-origin.ensures.1 in
     omega (arith, e.target_fits)
 
-pub offset-bounds-to-target : goal.offset-bounds-to-target
-offset-bounds-to-target g c =
-    let b = within g.row.COLUMNS g.row.TURN g.row.GROUPS (length c.args.from.now) c.args.column c.args.group c.requires.0 c.requires.3 c.requires.4 in
-    let e = ends_at (flag g.row.BACK) g.row.COLUMNS g.row.TURN g.row.GROUPS (length c.args.from.now) (g.row.TURN * (g.row.GROUPS * c.args.column + c.args.group) + c.loop-t.t) c.source-of-source.result c.ends-origin.result.0 c.ends-origin.result.1 c.requires.0 (omega arith) c.source-of-source.ensures.value c.ends-origin.ensures.0 c.ends-origin.ensures.1 in
+pub offset_bounds-to-target : goal.offset_bounds-to-target
+offset_bounds-to-target g c =
+    let b = within g.row.COLUMNS g.row.TURN g.row.GROUPS (length c.args.from.now) c.args.column c.args.group c.requires.grid c.requires.column_bound c.requires.group_bound in
+    let e = ends_at (flag g.row.BACK) g.row.COLUMNS g.row.TURN g.row.GROUPS (length c.args.from.now) (g.row.TURN * (g.row.GROUPS * c.args.column + c.args.group) + c.loop-t.t) c.source_of-source.result c.ends-origin.result.0 c.ends-origin.result.1 c.requires.grid (omega arith) c.source_of-source.ensures.value c.ends-origin.ensures.0 c.ends-origin.ensures.1 in
     let h : c.ends-origin.result.1 < length c.loop-t.to = omega (arith, e.target_fits) in search rules
 
 pub loop-t-preserved : goal.loop-t-preserved
 loop-t-preserved g c before =
-    let b = within g.row.COLUMNS g.row.TURN g.row.GROUPS (length c.args.from.now) c.args.column c.args.group c.requires.0 c.requires.3 c.requires.4 in
-    let e = ends_at (flag g.row.BACK) g.row.COLUMNS g.row.TURN g.row.GROUPS (length c.args.from.now) (g.row.TURN * (g.row.GROUPS * c.args.column + c.args.group) + c.loop-t.t) c.source-of-source.result c.ends-origin.result.0 c.ends-origin.result.1 c.requires.0 (omega arith) c.source-of-source.ensures.value c.ends-origin.ensures.0 c.ends-origin.ensures.1 in
+    let b = within g.row.COLUMNS g.row.TURN g.row.GROUPS (length c.args.from.now) c.args.column c.args.group c.requires.grid c.requires.column_bound c.requires.group_bound in
+    let e = ends_at (flag g.row.BACK) g.row.COLUMNS g.row.TURN g.row.GROUPS (length c.args.from.now) (g.row.TURN * (g.row.GROUPS * c.args.column + c.args.group) + c.loop-t.t) c.source_of-source.result c.ends-origin.result.0 c.ends-origin.result.1 c.requires.grid (omega arith) c.source_of-source.ensures.value c.ends-origin.ensures.0 c.ends-origin.ensures.1 in
     let from = c.args.from.now in
     let first = g.row.TURN * (g.row.GROUPS * c.args.column + c.args.group) in
     let x = c.index-from-origin.result in
@@ -51,7 +51,7 @@ loop-t-preserved g c before =
     let read = read_at from c.ends-origin.result.0 (origin back g.row.COLUMNS (length from) g.row.TURN (first + c.loop-t.t)) x e.origin_fits c.index-from-origin.is e.from_origin in
     let next : first + c.loop-t.t + 1 ≡ first + (c.loop-t.t + 1) = omega arith in
     subst (λ (m : ℕ). Moved back g.row.COLUMNS g.row.TURN from (set c.loop-t.to c.ends-origin.result.1 x) m) next
-    (moved_more back g.row.COLUMNS g.row.TURN g.row.GROUPS from c.requires.0 c.loop-t.to c.ends-origin.result.1 (first + c.loop-t.t) x (omega arith) (omega arith) e.to_target read (c.loop-t.invariant before))
+    (moved_more back g.row.COLUMNS g.row.TURN g.row.GROUPS from c.requires.grid c.loop-t.to c.ends-origin.result.1 (first + c.loop-t.t) x (omega arith) (omega arith) e.to_target read (c.loop-t.invariant before))
 
 pub returns : goal.returns
 returns g c before =

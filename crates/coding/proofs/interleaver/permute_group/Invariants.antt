@@ -1,6 +1,6 @@
 use Rattle.std.proofs.Common.{◌+◌, ◌*◌}
 use Rattle.coding.specs.Interleaver.{Moved}
-use Rattle.coding.proofs.Interleaving.{flag}
+use Rattle.coding.proofs.Deinterleaving.{flag}
 use Rattle.coding.proofs.interleaver.permute_group.Given as goal
 
 abbrev pub invariant-loop-t : goal.invariant-loop-t

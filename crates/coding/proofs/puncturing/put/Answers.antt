@@ -8,6 +8,6 @@ returns-then-send c =
     let s = c.if-send.true in
     record {
       moved = omega (arith, bit_true c.args.send s);
-      front = take_more_set c.args.out.now c.args.at c.args.bit (c.requires.0 s)
+      front = take_more_set c.args.out.now c.args.at c.args.bit (c.requires.fits_if_sent s)
           ∙ ap (λ (b : Bool). take c.args.at c.args.out.now ++ cond b (c.args.bit ∷ []) []) (sym s);
     }

@@ -13,5 +13,5 @@ returns c =
     let m = c.args.modulation in
     let k = c.args.code_rate in
     c.depuncture.ensures
-    ∙ ap (λ (n : ℕ). depunctured Absent k n c.deinterleave-symbol.new.to) c.requires.0.just
-    ∙ ap (depunctured Absent k (n_dbps (shaped m k))) (c.deinterleave-symbol.ensures.value Absent ∙ ap (deinterleaved Absent 16 (turn_size m)) c.demap-symbol.ensures)
+    ∙ ap (λ (n : ℕ). depunctured Absent k n c.deinterleave_symbol.new.to) c.requires.ready.just
+    ∙ ap (depunctured Absent k (n_dbps (shaped m k))) (c.deinterleave_symbol.ensures.value Absent ∙ ap (deinterleaved Absent 16 (turn_size m)) c.demap_symbol.ensures)

@@ -7,5 +7,5 @@ use Rattle.worked.proofs.vectors.coded_bits_of_the_first_symbol.Goals as goal
 pub encode-requires : goal.encode-requires
 unfolding sent_of sent_count
 encode-requires c =
-    let long : length c.fill-data-bits.new.out ≡ 144 = omega arith in
+    let long : length c.fill_data_bits.new.out ≡ 144 = omega arith in
     (omega arith, omega arith, ap (sent_count ThreeQuarters) (sym long))

@@ -10,13 +10,13 @@ use Rattle.phy.specs.Symbols.{symbol_of, header_symbol}
 use Rattle.phy.proofs.Shapes.{fills}
 use Rattle.phy.proofs.sending.calls.write_header.Goals as goal
 
-pub write-symbol-requires : goal.write-symbol-requires
-write-symbol-requires c =
+pub write_symbol-requires : goal.write_symbol-requires
+write_symbol-requires c =
     let long : length c.header-bits.result ≡ n_dbps (shape R6) = ap length c.header-bits.ensures ∙ (header_parts c.args.rate c.args.length).long in
     (omega arith, c.requires, fills R6 Half Bpsk (length c.header-bits.result) refl refl long)
 
 pub returns : goal.returns
 unfolding header_symbol
 returns c =
-    c.write-symbol.ensures.carriers
+    c.write_symbol.ensures.carriers
     ∙ ap (λ (bits : List Bool). symbol_of (shape R6) (punctured Half (coded bits))) c.header-bits.ensures
