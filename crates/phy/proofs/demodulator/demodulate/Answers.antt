@@ -17,21 +17,21 @@ use Rattle.phy.proofs.Shapes.{fills}
 use Rattle.phy.proofs.Demodulating.{accepts, refuses}
 use Rattle.phy.proofs.demodulator.demodulate.Goals as goal
 
-pub returns-in-err-check_symbol : goal.returns-in-err-check_symbol
-returns-in-err-check_symbol c =
+pub returns-in_err-check_symbol : goal.returns-in_err-check_symbol
+returns-in_err-check_symbol c =
     let carriers = c.args.carriers.now in
     let out = c.args.out.now in
-    let fault = c.in-err-check_symbol.field-0.0 in
+    let fault = c.in_err-check_symbol.field-0.0 in
     let p = err_from_is_err_and c.from_residual.result c.from_residual.ensures.1 in
     subst (λ (r : Result (Unit {0}) ListenFault). Demodulates (shape c.args.rate) carriers r out out) (sym (p.1 ∙ ap Err p.2))
-    (refuses c.args.rate carriers (L.Symbol fault) out (ap of_symbol (refused (symbol_fault carriers) fault c.in-err-check_symbol.ensures)))
+    (refuses c.args.rate carriers (L.Symbol fault) out (ap of_symbol (refused (symbol_fault carriers) fault c.in_err-check_symbol.ensures)))
 
 pub demodulate_symbol-requires : goal.demodulate_symbol-requires
 demodulate_symbol-requires c =
     let r = c.args.rate in
     let carriers = c.args.carriers.now in
     let n = length (mid_of 0 (c.n_dbps-n_dbps.result - 0) c.args.out.now) in
-    let fine = accepted (symbol_fault carriers) c.in-ok-check_symbol.ensures in
+    let fine = accepted (symbol_fault carriers) c.in_ok-check_symbol.ensures in
     let fits : c.n_dbps-n_dbps.result - 0 ≤ length c.args.out.now = search rules in
     let long : n ≡ n_dbps (shape r) = omega (arith, length-take-le (c.n_dbps-n_dbps.result - 0) c.args.out.now fits, c.n_dbps-n_dbps.ensures) in
     record {
@@ -50,5 +50,5 @@ returns c =
     c.demodulate_symbol.ensures ∙ ap₂ (λ (x : Modulation) (y : CodeRate). demodulated (shaped x y) carriers) c.modulation.ensures c.code_rate.ensures in
     let rest : c.n_dbps-n_dbps.result - 0 ≡ n_dbps (shape r) = omega (arith, c.n_dbps-n_dbps.ensures) in
     accepts r carriers out (c.demodulate_symbol.new.pairs ++ drop (c.n_dbps-n_dbps.result - 0) out)
-    (ap of_symbol (accepted (symbol_fault carriers) c.in-ok-check_symbol.ensures))
+    (ap of_symbol (accepted (symbol_fault carriers) c.in_ok-check_symbol.ensures))
     (ap₂ (λ (x : List (SoftBit × SoftBit)) (y : ℕ). x ++ drop y out) pairs rest)

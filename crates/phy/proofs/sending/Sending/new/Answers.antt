@@ -15,6 +15,6 @@ returns c =
     let known = c.in-Some.known in
     let octets = c.args.bytes.now in (
       not_refused (rate_of c.args.rate) known c.args.rate c.args.seed (length octets) (sym c.in-Some.ensures)
-          c.if-seed-eq0.false c.if-seed-gt-LAST-SEED.false c.if-bytes-eq0.false c.if-bytes-gt-MOST-BYTES.false,
+          c.if-seed-eq0.false c.if-seed-gt-LAST_SEED.false c.if-bytes-eq0.false c.if-bytes-gt-MOST_BYTES.false,
       λ r e. begun _ r known c.args.seed octets (same_rate (rate_of c.args.rate) known r (sym c.in-Some.ensures) e) refl refl refl (omega (arith, c.symbol_count-total.ensures)) refl refl refl,
     )

@@ -8,7 +8,11 @@ pub write_symbol-state-requires : goal.write_symbol-state-requires
 write_symbol-state-requires c =
     let r = c.args.rate in
     let long : length c.fill_data_bits-register.new.out ≡ n_dbps (shape r) = omega (arith, c.n_dbps-n_dbps.ensures) in
-    (c.requires.state_bound, c.requires.out_len, fills r c.code_rate.result c.modulation.result (length c.fill_data_bits-register.new.out) c.code_rate.ensures c.modulation.ensures long)
+    record {
+      state_bound = c.requires.state_bound;
+      out_len = c.requires.out_len;
+      fills = fills r c.code_rate.result c.modulation.result (length c.fill_data_bits-register.new.out) c.code_rate.ensures c.modulation.ensures long;
+    }
 
 pub returns : goal.returns
 returns c =

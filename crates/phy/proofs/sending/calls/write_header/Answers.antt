@@ -13,7 +13,7 @@ use Rattle.phy.proofs.sending.calls.write_header.Goals as goal
 pub write_symbol-requires : goal.write_symbol-requires
 write_symbol-requires c =
     let long : length c.header-bits.result ≡ n_dbps (shape R6) = ap length c.header-bits.ensures ∙ (header_parts c.args.rate c.args.length).long in
-    (omega arith, c.requires, fills R6 Half Bpsk (length c.header-bits.result) refl refl long)
+    record { state_bound = omega arith; out_len = c.requires; fills = fills R6 Half Bpsk (length c.header-bits.result) refl refl long }
 
 pub returns : goal.returns
 unfolding header_symbol
