@@ -1,7 +1,9 @@
 // The chain as a program: sends a built-in example, or sends a file into a recording.
 #![tactic(auto)]
+
 use arguments::Command;
 use failure::Failure;
+use std::process::ExitCode;
 
 mod arguments;
 mod example;
@@ -23,11 +25,11 @@ fn run(rt: &HostRuntime) -> Result<(), Failure> {
     }
 }
 
-fn main(rt: HostRuntime) -> Result<(), Failure> {
-    let outcome = run(&rt);
-    if let Err(failure) = &outcome {
-        // nobody is left to tell where this cannot be printed either
-        let _ = failure.tell(&rt);
-    }
-    outcome
+fn main(rt: HostRuntime) -> ExitCode {
+    let Err(failure) = run(&rt) else {
+        return ExitCode::SUCCESS;
+    };
+    // nobody is left to tell where this cannot be printed either
+    let _ = failure.tell(&rt);
+    ExitCode::FAILURE
 }
