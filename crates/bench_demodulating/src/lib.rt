@@ -1,5 +1,6 @@
 // The demodulator as one call from C, so that it can be timed beside one in C.
 #![tactic(auto)]
+
 use carriers::carrier::{Carrier, Point};
 use carriers::soft::SoftBit;
 use frame::rate::Rate;

@@ -1,5 +1,6 @@
 // The sender as one call from C, so that it can be timed beside a sender in C.
 #![tactic(auto)]
+
 use carriers::carrier::Carrier;
 use phy::sending::Sending;
 

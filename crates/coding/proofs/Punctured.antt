@@ -3,7 +3,6 @@ use Rattle.std.proofs.Common.{◌≡◌, ℕ, zero, suc, ◌+◌, ◌-◌, ◌*�
 use native.Mathlib.Nat.{div-add-mod, mul-add-mod_self_left}
 use Rattle.std.proofs.lemmas.List.{append_assoc, append-nil, length-append}
 use Rattle.frame.specs.declared.rate.CodeRate.{CodeRate}
-use Rattle.frame.specs.declared.rate.CodeRate.TheVariants as C
 use Rattle.frame.specs.Bits.{bit_of}
 use Rattle.coding.specs.Puncturing.{pattern, sent_of, kept, punctured_from, sent_count}
 

@@ -1,26 +1,20 @@
 -- The symbols of a frame, demodulated.
-use Rattle.std.proofs.Common.{◌≡◌, ℕ, zero, suc, ◌+◌, ◌-◌, ◌*◌, ◌<◌, ◌≤◌, Bool, false, List, ◌++◌, map, length, get_or, take, drop, None, sym, refl, ap, ◌∙◌, subst, mul-le-mul_right, suc-mul, zero-add, arith}
-use Rattle.std.specs.List.{range_with_len}
-use Rattle.std.proofs.lemmas.List.FromFn.{get_or-map-range_with_len}
+use Rattle.std.proofs.Common.{◌≡◌, ℕ, zero, suc, ◌+◌, ◌-◌, ◌*◌, ◌<◌, Bool, false, List, ◌++◌, length, get_or, take, drop, sym, ap, ◌∙◌, subst, arith}
 use Rattle.std.proofs.lemmas.List.{take_at, drop_at}
-use Rattle.frame.specs.declared.rate.Rate.{Rate}
 use Rattle.frame.specs.declared.rate.Rate.TheVariants.{R6}
-use Rattle.frame.specs.Rate.{Shape, shape, n_cbps, n_dbps}
+use Rattle.frame.specs.Rate.{Shape, shape, n_dbps}
 use Rattle.frame.specs.Header.{header}
 use Rattle.frame.specs.Data.{symbols, data_bits}
-use Rattle.frame.proofs.DataBits.{data_bits_append, length_data_bits}
+use Rattle.frame.proofs.DataBits.{length_data_bits}
 use Rattle.frame.proofs.HeaderBits.{header_parts}
 use Rattle.coding.specs.Coder.{coded, coded_from, state_from}
 use Rattle.coding.specs.Puncturing.{punctured}
 use Rattle.coding.proofs.States.{coded_append, length_coded}
-use Rattle.carriers.specs.declared.carrier.Carrier.{Carrier}
-use Rattle.carriers.specs.declared.soft.SoftBit.{SoftBit}
 use Rattle.carriers.specs.declared.soft.SoftBit.TheVariants.{Absent}
 use Rattle.carriers.specs.Received.{Received}
-use Rattle.phy.specs.Fault.{listening_fault}
-use Rattle.phy.specs.Symbols.{symbol_of, header_symbol, sent_bits, data_symbol, sent_symbol, symbols_in_all}
+use Rattle.phy.specs.Symbols.{symbol_of, header_symbol, data_symbol}
 use Rattle.phy.specs.Demodulation.{demodulated, PairTold}
-use Rattle.phy.specs.Hearing.{shape_of, coded_pairs, SentSymbolsAreHeard}
+use Rattle.phy.specs.Hearing.{SentSymbolsAreHeard}
 use Rattle.phy.proofs.Shapes.{regular}
 use Rattle.phy.proofs.Slices.{frame_split, sliced_frame}
 use Rattle.phy.proofs.Demodulating.{received_is_heard, pairs_told}

@@ -1,4 +1,5 @@
 #![tactic(auto)]
+
 pub mod demodulator;
 pub mod fault;
 pub mod sending;

@@ -1,5 +1,6 @@
 // Sends pseudo-random frames of every rate and prints a digest of each, to be held against another sender's.
 #![tactic(auto)]
+
 use anyhow::anyhow;
 use digest::{Sent, send_frame};
 use generator::Generator;

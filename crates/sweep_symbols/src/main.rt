@@ -1,5 +1,6 @@
 // Demodulates pseudo-random symbols of every rate and prints a digest of each, to be held against another implementation's.
 #![tactic(auto)]
+
 use anyhow::anyhow;
 use carriers::fault::Axis;
 use frame::rate::Rate;
