@@ -6,6 +6,6 @@ use Rattle.worked.proofs.vectors.coded_bits_of_the_first_symbol.Goals as goal
 -- 144 bits at 3/4 give 192
 pub encode-requires : goal.encode-requires
 unfolding sent_of sent_count
-encode-requires c =
+encode-requires g c =
     let long : length c.fill_data_bits.new.out ≡ 144 = omega arith in
-    (omega arith, omega arith, ap (sent_count ThreeQuarters) (sym long))
+    record { state_bound = omega arith; whole_periods = omega arith; out_len = ap (sent_count ThreeQuarters) (sym long) }

@@ -8,6 +8,6 @@ use Rattle.worked.proofs.vectors.coded_signal.Goals as goal
 -- 24 bits at 1/2 give 48
 pub encode-requires : goal.encode-requires
 unfolding sent_of sent_count
-encode-requires c =
+encode-requires g c =
     let long : length c.header.result ≡ 24 = ap length c.header.ensures ∙ (header_parts R36 100).long in
-    (omega arith, omega arith, ap (sent_count Half) (sym long))
+    record { state_bound = omega arith; whole_periods = omega arith; out_len = ap (sent_count Half) (sym long) }
