@@ -1,5 +1,6 @@
 // Worked values: a theorem over their table, and outside vectors and edges that the package is run against.
 #![tactic(auto)]
+
 ghost use Rattle.std.specs.Prelude.{◌≡◌, true};
 ghost use Rattle.worked.specs.Table.{table, all_same};
 ghost use Rattle.worked.specs.HeardTable.{heard_table};
