@@ -62,12 +62,16 @@ module _ (bits : List Bool) (c : CodeRate) (before i held place : ℕ) (out : Li
 pub underway_none : (bits : List Bool) (c : CodeRate) (before : ℕ) (out : List Bool) → before < 64 → length out ≡ sent_count c (length bits) → Underway bits c before 0 before 0 out
 underway_none bits c before out h e = record { six_bits = h; room = e; counted = sym (count_none c); left = refl; written = refl }
 
--- the pattern's marks at a pair of any period, as the code reads them
-pub drawn_at : (c : CodeRate) (period a b first t : ℕ) (marks : Bool × Bool) → Drawn c period a b → first % period ≡ 0 → t < period →
-    marks.0 ≡ bit_at a t → marks.1 ≡ bit_at b t → marks ≡ sent_of c (first + t)
-drawn_at c period a b first t marks d whole h p q =
+-- the pattern's marks at a pair of any period
+pub drawn_at : (c : CodeRate) (period a b first t : ℕ) → Drawn c period a b → first % period ≡ 0 → t < period → ◌≡◌ {A = Bool × Bool} (bit_at a t, bit_at b t) (sent_of c (first + t))
+drawn_at c period a b first t d whole h =
     let again = sent_again c first (ap (λ (p : ℕ). first % p) (sym d.long) ∙ whole) 1 t in
-    ap₂ (λ (x : Bool) (y : Bool). (x, y)) p q ∙ d.marks t h ∙ sym again ∙ ap (sent_of c) (let z : 1 * first + t ≡ first + t = omega arith in z)
+    d.marks t h ∙ sym again ∙ ap (sent_of c) (let z : 1 * first + t ≡ first + t = omega arith in z)
+
+-- the same of the marks that the code read
+pub marks_at : (c : CodeRate) (period a b first t : ℕ) (marks : Bool × Bool) → Drawn c period a b → first % period ≡ 0 → t < period →
+    marks.0 ≡ bit_at a t → marks.1 ≡ bit_at b t → marks ≡ sent_of c (first + t)
+marks_at c period a b first t marks d whole h p q = ap₂ (λ (x : Bool) (y : Bool). (x, y)) p q ∙ drawn_at c period a b first t d whole h
 
 -- whole periods, by the pattern's own length
 pub whole_periods : (c : CodeRate) (period a b n : ℕ) → Drawn c period a b → n % length (pattern c) ≡ 0 → n % period ≡ 0
