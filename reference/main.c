@@ -297,14 +297,12 @@ int main(int count, char *arguments[])
 {
     if (count == 6 && strcmp(arguments[1], "send") == 0)
         return run_send(arguments + 2);
-    if (count == 4 && strcmp(arguments[1], "sweep") == 0) {
-        if (strcmp(arguments[2], "frames") == 0)
-            return run_sweep(arguments[3], sweep_frame);
-        if (strcmp(arguments[2], "symbols") == 0)
-            return run_sweep(arguments[3], sweep_symbol);
-    }
+    if (count == 3 && strcmp(arguments[1], "sweep") == 0)
+        return run_sweep(arguments[2], sweep_frame);
+    if (count == 3 && strcmp(arguments[1], "sweep_symbols") == 0)
+        return run_sweep(arguments[2], sweep_symbol);
     fprintf(stderr, "usage: reference send RATE SEED IN OUT\n"
-                    "       reference sweep frames COUNT\n"
-                    "       reference sweep symbols COUNT\n");
+                    "       reference sweep COUNT\n"
+                    "       reference sweep_symbols COUNT\n");
     return BROKEN;
 }

@@ -5,7 +5,7 @@ use Rattle.frame.specs.declared.rate.CodeRate.{CodeRate}
 use Rattle.frame.specs.Bits.{bit_of}
 use Rattle.coding.specs.Puncturing.{sent_of, sent_count}
 
--- the same of pairs of anything, as of what was heard: of one pair, what is sent
+-- Puncturing of pairs of anything, and not of the coder's bits alone, as `kept` and `punctured` are: of one pair, what is sent
 abbrev pub kept_of : {X : Type 0} → Bool × Bool → X × X → List X
 kept_of send pair = cond send.0 (pair.0 ∷ []) [] ++ cond send.1 (pair.1 ∷ []) []
 

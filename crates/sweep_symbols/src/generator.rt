@@ -1,4 +1,5 @@
 // Pseudo-random numbers.
+
 // A linear congruential generator, whose state runs on from symbol to symbol.
 #[derive(Drop)]
 pub struct Generator {
