@@ -1,9 +1,9 @@
 -- Depuncturing, which puts the stolen outputs back as holes.
-use Rattle.std.specs.Prelude.{◌≡◌, ℕ, ◌+◌, ◌<◌, Bool, cond, List, [], ◌∷◌, ◌++◌, map, length, get_or, slice_index_or}
+use Rattle.std.specs.Prelude.{◌≡◌, ℕ, ◌+◌, ◌<◌, Bool, cond, List, [], ◌∷◌, ◌++◌, map, length, slice_index_or}
 use Rattle.std.specs.List.{range_with_len}
 use Rattle.frame.specs.declared.rate.CodeRate.{CodeRate}
 use Rattle.frame.specs.Bits.{bit_of}
-use Rattle.coding.specs.Puncturing.{sent_of, sent_count}
+use Rattle.coding.specs.Puncturing.{sent_of, sent_count, punctured}
 
 -- Puncturing of pairs of anything, and not of the coder's bits alone, as `kept` and `punctured` are: of one pair, what is sent
 abbrev pub kept_of : {X : Type 0} → Bool × Bool → X × X → List X
@@ -16,6 +16,10 @@ punctured_of_from send i (pair ∷ pairs) = kept_of (send i) pair ++ punctured_o
 
 abbrev pub punctured_of : {X : Type 0} → CodeRate → List (X × X) → List X
 punctured_of c pairs = punctured_of_from (sent_of c) 0 pairs
+
+-- of the coder's outputs it is the puncturing by which frames are sent
+abbrev pub PuncturesAlike : Type 0
+PuncturesAlike = (c : CodeRate) (pairs : List (Bool × Bool)) → punctured_of c pairs ≡ punctured c pairs
 
 -- pair i from what was sent of a row of pairs: A and B stand where the pattern counts them, and a stolen one is put back as a hole
 abbrev pub restored : {X : Type 0} → X → CodeRate → List X → ℕ → X × X
@@ -32,7 +36,7 @@ depunctured hole c n sent = map (restored hole c sent) (range_with_len 0 n)
 
 -- pair i of a row with a hole for each that is stolen
 abbrev pub with_holes : {X : Type 0} → X → CodeRate → List (X × X) → ℕ → X × X
-with_holes hole c pairs i = (cond (sent_of c i).0 (get_or pairs i (hole, hole)).0 hole, cond (sent_of c i).1 (get_or pairs i (hole, hole)).1 hole)
+with_holes hole c pairs i = (cond (sent_of c i).0 (slice_index_or pairs i (hole, hole)).0 hole, cond (sent_of c i).1 (slice_index_or pairs i (hole, hole)).1 hole)
 
 -- depuncturing gives back everything that was sent, and a hole for all else
 abbrev pub DepuncturingUndoes : Type 0 → Type 0

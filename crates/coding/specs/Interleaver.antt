@@ -1,5 +1,5 @@
 -- Where the coded bits of a symbol go: n of them, written in rows of `columns`, and turned within groups of s.
-use Rattle.std.specs.Prelude.{◌≡◌, ℕ, ◌+◌, ◌-◌, ◌*◌, ◌/◌, ◌%◌, ◌<◌, max, Bool, cond, List, map, length, get_or, slice_index_or}
+use Rattle.std.specs.Prelude.{◌≡◌, ℕ, ◌+◌, ◌-◌, ◌*◌, ◌/◌, ◌%◌, ◌<◌, max, Bool, cond, List, map, length, slice_index_or}
 use Rattle.std.specs.List.{range_with_len}
 use Rattle.frame.specs.declared.rate.Modulation.{Modulation}
 use Rattle.frame.specs.Rate.{n_bpsc}
@@ -35,11 +35,11 @@ source columns n s j = unspread columns n (unturn columns n s j)
 
 -- the coded bits of a symbol interleaved: place j holds the bit that goes there. In a grid no place lacks one, so d is not read
 abbrev pub interleaved : {X : Type 0} → X → ℕ → ℕ → List X → List X
-interleaved d columns s xs = map (λ j. get_or xs (source columns (length xs) s j) d) (range_with_len 0 (length xs))
+interleaved d columns s xs = map (λ j. slice_index_or xs (source columns (length xs) s j) d) (range_with_len 0 (length xs))
 
 -- and back: bit k, in the coder's order, is what stands at its place
 abbrev pub deinterleaved : {X : Type 0} → X → ℕ → ℕ → List X → List X
-deinterleaved d columns s ys = map (λ k. get_or ys (place columns (length ys) s k) d) (range_with_len 0 (length ys))
+deinterleaved d columns s ys = map (λ k. slice_index_or ys (place columns (length ys) s k) d) (range_with_len 0 (length ys))
 
 -- coded bit k of xs stands at its place in ys
 abbrev pub Placed : {X : Type 0} → ℕ → ℕ → List X → List X → Type 0
@@ -49,8 +49,8 @@ Placed {X} columns s xs ys = (k : ℕ) (d : X) → k < length xs → slice_index
 abbrev pub Filled : {X : Type 0} → ℕ → ℕ → List X → List X → ℕ → Type 0
 Filled {X} columns s xs ys n = (j : ℕ) (d : X) → j < n → slice_index_or ys j d ≡ slice_index_or xs (source columns (length xs) s j) d
 
--- the way back goes through the places too: at place j it moves what stands at `origin` to `target`. That is a source and its place,
--- and the other way round on the way back
+-- a walk through the places that serves either way: at place j it moves what stands at `origin` to `target`, which are the source
+-- and its place, or on the way back the place and its source
 abbrev pub target : Bool → ℕ → ℕ → ℕ → ℕ → ℕ
 target back columns n s j = cond back (source columns n s j) j
 

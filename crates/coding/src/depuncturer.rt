@@ -2,15 +2,17 @@
 ghost use Rattle.std.specs.Prelude.{◌≡◌, ◌+◌, ◌%◌, ◌<◌, ◌≤◌, true, cond, length, slice_index_or};
 ghost use Rattle.frame.specs.Bits.{bit_of};
 ghost use Rattle.coding.specs.Puncturing.{pattern, sent_count};
-ghost use Rattle.coding.specs.Depuncturing.{depunctured, DepuncturingUndoes, Restored};
+ghost use Rattle.coding.specs.Depuncturing.{depunctured, DepuncturingUndoes, PuncturesAlike, Restored};
 ghost use Rattle.coding.specs.Encoding.{Drawn};
 
 use crate::puncturing::sent_of;
 use frame::rate::CodeRate;
 
-// Everything that was sent comes back, and all else as a hole. It computes nothing: its contract is the law.
+// Everything that was sent comes back, and all else as a hole, whatever the pairs hold; and where they hold the coder's outputs
+// it is the sender's puncturing that is undone. It computes nothing: its contract is the law.
 pub fn puncturing_is_undone<T>()
-    ensures { DepuncturingUndoes T }
+    ensures undone { DepuncturingUndoes T }
+    ensures alike { PuncturesAlike }
 {}
 
 // The next of `sent` if one is sent here, and else a hole; and the place after it.

@@ -113,7 +113,8 @@ pub fn interleaved_lists_come_back<T>()
 
 // From where to where a bit is moved: from its source to its place, or back.
 fn ends<const BACK: bool>(place: usize, source: usize) -> (usize, usize)
-    ensures { (result.0 ≡ (if BACK then place else source)) × (result.1 ≡ (if BACK then source else place)) }
+    ensures origin { result.0 ≡ (if BACK then place else source) }
+    ensures target { result.1 ≡ (if BACK then source else place) }
 {
     if BACK {
         (place, source)

@@ -6,7 +6,8 @@ ghost use Rattle.coding.specs.Encoding.{Put};
 // Of pair `t` of a period, whether A is sent, and whether B is: a pattern is two numbers, bit t of each for pair t.
 pub(crate) fn sent_of<const A: u8, const B: u8>(t: usize) -> (bool, bool)
     requires { t < 8 }
-    ensures { (result.0 ≡ bit_at A t) × (result.1 ≡ bit_at B t) }
+    ensures a { result.0 ≡ bit_at A t }
+    ensures b { result.1 ≡ bit_at B t }
 {
     ((A >> t) % 2 == 1, (B >> t) % 2 == 1)
 }

@@ -1,5 +1,5 @@
 -- What the carriers of a symbol say of its coded bits: for each data bit a pair, of A and of B, in the coder's order.
-use Rattle.std.specs.Prelude.{◌≡◌, ℕ, ◌+◌, ◌/◌, ◌<◌, Bool, true, false, List, ◌++◌, length, get_or, drop, Some, None, Ok, Err, Result, slice_index_or}
+use Rattle.std.specs.Prelude.{◌≡◌, ℕ, ◌+◌, ◌/◌, ◌<◌, Bool, true, false, List, ◌++◌, length, drop, Some, None, Ok, Err, Result, slice_index_or}
 use Rattle.frame.specs.declared.rate.Modulation.{Modulation}
 use Rattle.frame.specs.declared.rate.CodeRate.{CodeRate}
 use Rattle.frame.specs.Bits.{bit_of}
@@ -58,7 +58,7 @@ Answered s carriers (Err fault) out out' = (listening_fault carriers ≡ Some fa
 pub record Demodulates (s : Shape) (carriers : List Carrier) (r : Result (Unit {0}) ListenFault) (out out' : List (SoftBit × SoftBit)) : Type 0 where
   pub answer : Answered s carriers r out out'
   -- no value passes the limit
-  pub legal : r ≡ Ok tt → (i : ℕ) → i < n_dbps s → Legal (get_or out' i (Absent, Absent)).0 × Legal (get_or out' i (Absent, Absent)).1
+  pub legal : r ≡ Ok tt → (i : ℕ) → i < n_dbps s → Legal (slice_index_or out' i (Absent, Absent)).0 × Legal (slice_index_or out' i (Absent, Absent)).1
   -- carriers of a sent symbol, each as sent or struck out, are never refused, and tell every bit that was sent on those heard
   pub told : (pairs : List (Bool × Bool)) → length pairs ≡ n_dbps s → Received (symbol_of s (punctured s.code_rate pairs)) carriers →
       (r ≡ Ok tt) × ((i : ℕ) → i < n_dbps s → PairTold s carriers i (slice_index_or pairs i (false, false)) (slice_index_or out' i (Absent, Absent)))

@@ -20,7 +20,7 @@ taken-a-requires g c =
     let rate = c.args.code_rate in
     let i = c.args.first + c.loop-t.t in
     let send : c.sent_of-a_sent.result ≡ sent_of rate i =
-    marks_at rate g.row.PERIOD g.row.A g.row.B c.args.first c.loop-t.t c.sent_of-a_sent.result c.requires.drawn c.requires.first_aligned (omega arith) c.sent_of-a_sent.ensures.0 c.sent_of-a_sent.ensures.1 in
+    marks_at rate g.row.PERIOD g.row.A g.row.B c.args.first c.loop-t.t c.sent_of-a_sent.result c.requires.drawn c.requires.first_aligned (omega arith) c.sent_of-a_sent.ensures.a c.sent_of-a_sent.ensures.b in
     let r = room rate i (length c.args.out.now) (length c.args.sent.now) c.sent_of-a_sent.result (omega arith) c.requires.sent_len send in
     let at = (c.loop-t.invariant rate c.requires.drawn c.requires.counted).0 in
     λ e. omega (arith, r, at, bit_true c.sent_of-a_sent.result.0 e)
@@ -30,7 +30,7 @@ taken-b-requires g c =
     let rate = c.args.code_rate in
     let i = c.args.first + c.loop-t.t in
     let send : c.sent_of-a_sent.result ≡ sent_of rate i =
-    marks_at rate g.row.PERIOD g.row.A g.row.B c.args.first c.loop-t.t c.sent_of-a_sent.result c.requires.drawn c.requires.first_aligned (omega arith) c.sent_of-a_sent.ensures.0 c.sent_of-a_sent.ensures.1 in
+    marks_at rate g.row.PERIOD g.row.A g.row.B c.args.first c.loop-t.t c.sent_of-a_sent.result c.requires.drawn c.requires.first_aligned (omega arith) c.sent_of-a_sent.ensures.a c.sent_of-a_sent.ensures.b in
     let r = room rate i (length c.args.out.now) (length c.args.sent.now) c.sent_of-a_sent.result (omega arith) c.requires.sent_len send in
     let at = (c.loop-t.invariant rate c.requires.drawn c.requires.counted).0 in
     λ e. omega (arith, r, at, c.taken-a.ensures.after, bit_true c.sent_of-a_sent.result.1 e)
@@ -41,7 +41,7 @@ loop-t-preserved g c rate d e =
     let hole = c.args.hole in
     let i = c.args.first + c.loop-t.t in
     let send : c.sent_of-a_sent.result ≡ sent_of rate i =
-    marks_at rate g.row.PERIOD g.row.A g.row.B c.args.first c.loop-t.t c.sent_of-a_sent.result d c.requires.first_aligned (omega arith) c.sent_of-a_sent.ensures.0 c.sent_of-a_sent.ensures.1 in
+    marks_at rate g.row.PERIOD g.row.A g.row.B c.args.first c.loop-t.t c.sent_of-a_sent.result d c.requires.first_aligned (omega arith) c.sent_of-a_sent.ensures.a c.sent_of-a_sent.ensures.b in
     let at = (c.loop-t.invariant rate d e).0 in
     let next : i + 1 ≡ c.args.first + (c.loop-t.t + 1) = omega arith in
     let more : sent_count rate (i + 1) ≡ sent_count rate i + (bit_of c.sent_of-a_sent.result.0 + bit_of c.sent_of-a_sent.result.1) = rw send (count_more rate i) in

@@ -20,7 +20,7 @@ pub put-at-requires : goal.put-at-requires
 put-at-requires g c =
     let u = c.loop-t.invariant c.args.code_rate c.requires.drawn c.requires.underway in
     let send : c.sent_of-send_a.result ≡ sent_of c.args.code_rate (c.args.first + c.loop-t.t) =
-    marks_at c.args.code_rate g.row.PERIOD g.row.A g.row.B c.args.first c.loop-t.t c.sent_of-send_a.result c.requires.drawn c.requires.first_aligned (omega arith) c.sent_of-send_a.ensures.0 c.sent_of-send_a.ensures.1 in
+    marks_at c.args.code_rate g.row.PERIOD g.row.A g.row.B c.args.first c.loop-t.t c.sent_of-send_a.result c.requires.drawn c.requires.first_aligned (omega arith) c.sent_of-send_a.ensures.a c.sent_of-send_a.ensures.b in
     let r = room_for c.args.bits.now c.args.code_rate c.args.state (c.args.first + c.loop-t.t) c.loop-t.held c.loop-t.at c.loop-t.out u c.sent_of-send_a.result (omega arith) send in
     record { fits_if_sent = λ e. omega (arith, r, bit_true c.sent_of-send_a.result.0 e); within = omega (arith, r) }
 
@@ -28,7 +28,7 @@ pub put-at-requires-in-loop-t : goal.put-at-requires-in-loop-t
 put-at-requires-in-loop-t g c =
     let u = c.loop-t.invariant c.args.code_rate c.requires.drawn c.requires.underway in
     let send : c.sent_of-send_a.result ≡ sent_of c.args.code_rate (c.args.first + c.loop-t.t) =
-    marks_at c.args.code_rate g.row.PERIOD g.row.A g.row.B c.args.first c.loop-t.t c.sent_of-send_a.result c.requires.drawn c.requires.first_aligned (omega arith) c.sent_of-send_a.ensures.0 c.sent_of-send_a.ensures.1 in
+    marks_at c.args.code_rate g.row.PERIOD g.row.A g.row.B c.args.first c.loop-t.t c.sent_of-send_a.result c.requires.drawn c.requires.first_aligned (omega arith) c.sent_of-send_a.ensures.a c.sent_of-send_a.ensures.b in
     let r = room_for c.args.bits.now c.args.code_rate c.args.state (c.args.first + c.loop-t.t) c.loop-t.held c.loop-t.at c.loop-t.out u c.sent_of-send_a.result (omega arith) send in
     record { fits_if_sent = λ e. omega (arith, r, c.put-at.ensures.moved, bit_true c.sent_of-send_a.result.1 e); within = omega (arith, r, c.put-at.ensures.moved) }
 
@@ -40,7 +40,7 @@ loop-t-preserved g c rate d u =
     let bits = c.args.bits.now in
     let i = c.args.first + c.loop-t.t in
     let send : c.sent_of-send_a.result ≡ sent_of rate i =
-    marks_at rate g.row.PERIOD g.row.A g.row.B c.args.first c.loop-t.t c.sent_of-send_a.result d c.requires.first_aligned (omega arith) c.sent_of-send_a.ensures.0 c.sent_of-send_a.ensures.1 in
+    marks_at rate g.row.PERIOD g.row.A g.row.B c.args.first c.loop-t.t c.sent_of-send_a.result d c.requires.first_aligned (omega arith) c.sent_of-send_a.ensures.a c.sent_of-send_a.ensures.b in
     let next : i + 1 ≡ c.args.first + (c.loop-t.t + 1) = omega arith in
     subst (λ (n : ℕ). Underway bits rate c.args.state n c.next_state-held.result c.put-at-in-loop-t.result c.put-at-in-loop-t.new.out) next
     (underway_more bits rate c.args.state i c.loop-t.held c.loop-t.at c.loop-t.out (c.loop-t.invariant rate d u)

@@ -19,31 +19,31 @@ overflow_add-first-in-loop-t g c = let b = within g.row.COLUMNS g.row.TURN g.row
 pub bounds-from-origin : goal.bounds-from-origin
 bounds-from-origin g c =
     let b = within g.row.COLUMNS g.row.TURN g.row.GROUPS (length c.args.from.now) c.args.column c.args.group c.requires.grid c.requires.column_bound c.requires.group_bound in
-    let e = ends_at (flag g.row.BACK) g.row.COLUMNS g.row.TURN g.row.GROUPS (length c.args.from.now) (g.row.TURN * (g.row.GROUPS * c.args.column + c.args.group) + c.loop-t.t) c.source_of-source.result c.ends-origin.result.0 c.ends-origin.result.1 c.requires.grid (omega arith) c.source_of-source.ensures.value c.ends-origin.ensures.0 c.ends-origin.ensures.1 in
+    let e = ends_at (flag g.row.BACK) g.row.COLUMNS g.row.TURN g.row.GROUPS (length c.args.from.now) (g.row.TURN * (g.row.GROUPS * c.args.column + c.args.group) + c.loop-t.t) c.source_of-source.result c.ends-origin.result.0 c.ends-origin.result.1 c.requires.grid (omega arith) c.source_of-source.ensures.value c.ends-origin.ensures.origin c.ends-origin.ensures.target in
     omega (arith, e.origin_fits)
 
 pub offset_bounds-from-origin : goal.offset_bounds-from-origin
 offset_bounds-from-origin g c =
     let b = within g.row.COLUMNS g.row.TURN g.row.GROUPS (length c.args.from.now) c.args.column c.args.group c.requires.grid c.requires.column_bound c.requires.group_bound in
-    let e = ends_at (flag g.row.BACK) g.row.COLUMNS g.row.TURN g.row.GROUPS (length c.args.from.now) (g.row.TURN * (g.row.GROUPS * c.args.column + c.args.group) + c.loop-t.t) c.source_of-source.result c.ends-origin.result.0 c.ends-origin.result.1 c.requires.grid (omega arith) c.source_of-source.ensures.value c.ends-origin.ensures.0 c.ends-origin.ensures.1 in
+    let e = ends_at (flag g.row.BACK) g.row.COLUMNS g.row.TURN g.row.GROUPS (length c.args.from.now) (g.row.TURN * (g.row.GROUPS * c.args.column + c.args.group) + c.loop-t.t) c.source_of-source.result c.ends-origin.result.0 c.ends-origin.result.1 c.requires.grid (omega arith) c.source_of-source.ensures.value c.ends-origin.ensures.origin c.ends-origin.ensures.target in
     let h : c.ends-origin.result.0 < length c.args.from.now = e.origin_fits in search rules
 
 pub bounds-to-target : goal.bounds-to-target
 bounds-to-target g c =
     let b = within g.row.COLUMNS g.row.TURN g.row.GROUPS (length c.args.from.now) c.args.column c.args.group c.requires.grid c.requires.column_bound c.requires.group_bound in
-    let e = ends_at (flag g.row.BACK) g.row.COLUMNS g.row.TURN g.row.GROUPS (length c.args.from.now) (g.row.TURN * (g.row.GROUPS * c.args.column + c.args.group) + c.loop-t.t) c.source_of-source.result c.ends-origin.result.0 c.ends-origin.result.1 c.requires.grid (omega arith) c.source_of-source.ensures.value c.ends-origin.ensures.0 c.ends-origin.ensures.1 in
+    let e = ends_at (flag g.row.BACK) g.row.COLUMNS g.row.TURN g.row.GROUPS (length c.args.from.now) (g.row.TURN * (g.row.GROUPS * c.args.column + c.args.group) + c.loop-t.t) c.source_of-source.result c.ends-origin.result.0 c.ends-origin.result.1 c.requires.grid (omega arith) c.source_of-source.ensures.value c.ends-origin.ensures.origin c.ends-origin.ensures.target in
     omega (arith, e.target_fits)
 
 pub offset_bounds-to-target : goal.offset_bounds-to-target
 offset_bounds-to-target g c =
     let b = within g.row.COLUMNS g.row.TURN g.row.GROUPS (length c.args.from.now) c.args.column c.args.group c.requires.grid c.requires.column_bound c.requires.group_bound in
-    let e = ends_at (flag g.row.BACK) g.row.COLUMNS g.row.TURN g.row.GROUPS (length c.args.from.now) (g.row.TURN * (g.row.GROUPS * c.args.column + c.args.group) + c.loop-t.t) c.source_of-source.result c.ends-origin.result.0 c.ends-origin.result.1 c.requires.grid (omega arith) c.source_of-source.ensures.value c.ends-origin.ensures.0 c.ends-origin.ensures.1 in
+    let e = ends_at (flag g.row.BACK) g.row.COLUMNS g.row.TURN g.row.GROUPS (length c.args.from.now) (g.row.TURN * (g.row.GROUPS * c.args.column + c.args.group) + c.loop-t.t) c.source_of-source.result c.ends-origin.result.0 c.ends-origin.result.1 c.requires.grid (omega arith) c.source_of-source.ensures.value c.ends-origin.ensures.origin c.ends-origin.ensures.target in
     let h : c.ends-origin.result.1 < length c.loop-t.to = omega (arith, e.target_fits) in search rules
 
 pub loop-t-preserved : goal.loop-t-preserved
 loop-t-preserved g c before =
     let b = within g.row.COLUMNS g.row.TURN g.row.GROUPS (length c.args.from.now) c.args.column c.args.group c.requires.grid c.requires.column_bound c.requires.group_bound in
-    let e = ends_at (flag g.row.BACK) g.row.COLUMNS g.row.TURN g.row.GROUPS (length c.args.from.now) (g.row.TURN * (g.row.GROUPS * c.args.column + c.args.group) + c.loop-t.t) c.source_of-source.result c.ends-origin.result.0 c.ends-origin.result.1 c.requires.grid (omega arith) c.source_of-source.ensures.value c.ends-origin.ensures.0 c.ends-origin.ensures.1 in
+    let e = ends_at (flag g.row.BACK) g.row.COLUMNS g.row.TURN g.row.GROUPS (length c.args.from.now) (g.row.TURN * (g.row.GROUPS * c.args.column + c.args.group) + c.loop-t.t) c.source_of-source.result c.ends-origin.result.0 c.ends-origin.result.1 c.requires.grid (omega arith) c.source_of-source.ensures.value c.ends-origin.ensures.origin c.ends-origin.ensures.target in
     let from = c.args.from.now in
     let first = g.row.TURN * (g.row.GROUPS * c.args.column + c.args.group) in
     let x = c.index-from-origin.result in
