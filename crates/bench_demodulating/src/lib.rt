@@ -72,7 +72,7 @@ fn run_turns(rate: Rate, turns: u32, carriers: &[Carrier]) -> u32 {
 // rate or the number of bytes is another.
 #[unsafe(no_mangle)]
 pub extern "C" fn bench_demodulate(rate: u32, turns: u32, bytes: &[u8]) -> u32 {
-    let Some(rate) = Rate::from_number(rate) else {
+    let Ok(rate) = Rate::try_from(rate) else {
         return 0;
     };
     if bytes.len() != 2 * DRAWN {

@@ -1,19 +1,17 @@
--- The values of a coordinate as the code writes them, and the carriers one after the other.
-use Rattle.std.proofs.Common.{◌≡◌, ℕ, zero, suc, ◌+◌, ◌-◌, ◌*◌, ◌/◌, ◌<◌, ◌≤◌, Bool, true, false, cond, ltb, List, [], ◌∷◌, ◌++◌, map, length, get_or, take, drop, set, replicate, ℤ, pos, negsuc, ◌-ℤ◌, nat_abs, sym, refl, ap, ◌∙◌, ap₂, mul-le-mul_right, suc-mul, mul_comm, mul-suc, arith, w16, to_z, of_z}
-use borrow.Rule.Slice.PartMut.{put_mid, post_of}
-use Rattle.std.proofs.lemmas.Int.{ints}
-use Rattle.std.proofs.lemmas.List.{append_assoc, append-nil, length-append, length-drop, take_at, drop_at, drop_all, take_more, take_all, ext_get_or}
-use Rattle.std.proofs.lemmas.Simd.{length-replicate, get_or-replicate}
+-- The values of a coordinate as the code writes them, how large they are, and the carriers one after the other.
+use Rattle.std.proofs.Common.{◌≡◌, ℕ, zero, suc, ◌+◌, ◌-◌, ◌*◌, ◌<◌, ◌≤◌, Bool, true, false, cond, ltb, List, [], ◌∷◌, ◌++◌, length, get_or, take, set, ℤ, pos, negsuc, ◌-ℤ◌, nat_abs, sym, refl, ap, ◌∙◌, mul-le-mul_right, suc-mul, mul_comm, mul-suc, arith}
+use borrow.Rule.Slice.PartMut.{put_mid}
+use Rattle.std.proofs.lemmas.List.{append_assoc, append-nil, length-append, take_more, take_all}
+use Rattle.std.proofs.lemmas.Simd.{length-replicate}
 use Rattle.std.proofs.lemmas.Slice.{take-put_mid}
 use Rattle.frame.specs.declared.rate.Modulation.{Modulation}
 use Rattle.frame.specs.declared.rate.Modulation.TheVariants as M
 use Rattle.frame.specs.Rate.{n_bpsc}
-use Rattle.carriers.specs.declared.carrier.Point.{Point}
 use Rattle.carriers.specs.declared.carrier.Carrier.{Carrier}
 use Rattle.carriers.specs.declared.carrier.Carrier.TheVariants.{Heard, Struck}
 use Rattle.carriers.specs.declared.soft.SoftBit.{SoftBit}
-use Rattle.carriers.specs.declared.soft.SoftBit.TheVariants.{Value, Absent}
-use Rattle.carriers.specs.Demapper.{size, quantised, values, point_values, soft_bits, demapped}
+use Rattle.carriers.specs.declared.soft.SoftBit.TheVariants.{Absent}
+use Rattle.carriers.specs.Demapper.{size, soft_bits, demapped}
 
 -- ---- a part written whole
 
@@ -35,18 +33,7 @@ wrote_three (x ∷ y ∷ []) a b c e = absurd (omega arith)
 wrote_three (x ∷ y ∷ z ∷ []) a b c e = refl
 wrote_three (x ∷ y ∷ z ∷ w ∷ xs) a b c e = absurd (omega arith)
 
--- two halves, one after the other
-pub wrote_halves : {X : Type 0} (xs a b : List X) (h : ℕ) → length a ≡ h → length xs ≡ 2 * h → put_mid h (2 * h - h) (a ++ post_of 0 (h - 0) xs) b ≡ a ++ b
-wrote_halves {X} xs a b h la lx =
-    let rest = post_of 0 (h - 0) xs in
-    let short : length rest ≤ 2 * h - h = omega (arith, length-drop (h - 0) xs) in
-    ap₂ (λ (u : List X) (v : List X). u ++ (b ++ v)) (take_at a rest h la) (ap (drop (2 * h - h)) (drop_at a rest h la) ∙ drop_all (2 * h - h) rest short)
-    ∙ ap (λ (v : List X). a ++ v) (append-nil b)
-
--- ---- n less a size, in 16 bits
-
-less : (n k : ℕ) → n ≤ 128 → k ≤ 128 → to_z w16 (of_z w16 (pos n -ℤ to_z w16 (of_z w16 (pos k)))) ≡ pos n -ℤ pos k
-less n k g h = omega (arith, ints)
+-- ---- n less a size
 
 difference_bound : (n k : ℕ) → n ≤ 128 → k ≤ 128 → nat_abs (pos n -ℤ pos k) ≤ 128
 difference_bound n zero g h = omega arith
@@ -58,27 +45,6 @@ difference_bound n (suc k) g h = by (ltb n (suc k))
 
 pub less_bound : (n : ℕ) (r : ℤ) → n ≤ 128 → nat_abs r ≤ 128 → nat_abs (pos n -ℤ size r) ≤ 128
 less_bound n r g h = difference_bound n (nat_abs r) g h
-
-pub less_size : (n : ℕ) (r a : ℤ) → n ≤ 128 → nat_abs r ≤ 128 → a ≡ size r → to_z w16 (of_z w16 (pos n -ℤ to_z w16 (of_z w16 a))) ≡ pos n -ℤ size r
-less_size n r a g h e = ap (λ (z : ℤ). to_z w16 (of_z w16 (pos n -ℤ to_z w16 (of_z w16 z)))) e ∙ less n (nat_abs r) g h
-
--- ---- one carrier
-
--- a modulation other than BPSK has bits on both axes
-pub both_axes : (m : Modulation) (p : Point) → (m ≡ M.Bpsk → ⊥) → map Value (point_values m p) ≡ map Value (values m (quantised p.i)) ++ map Value (values m (quantised p.q))
-both_axes M.Bpsk p other = absurd (other refl)
-both_axes M.Qpsk p other = refl
-both_axes M.Qam16 p other = refl
-both_axes M.Qam64 p other = refl
-
-pub half_axis : (m : Modulation) (r : ℤ) → (m ≡ M.Bpsk → ⊥) → (length (map Value (values m r)) ≡ n_bpsc m / 2) × (n_bpsc m ≡ 2 * (n_bpsc m / 2))
-half_axis M.Bpsk r other = absurd (other refl)
-half_axis M.Qpsk r other = (refl, refl)
-half_axis M.Qam16 r other = (refl, refl)
-half_axis M.Qam64 r other = (refl, refl)
-
-pub all_absent : (xs : List SoftBit) (n : ℕ) → length xs ≡ n → ((k : ℕ) → k < n → get_or xs k Absent ≡ Absent) → xs ≡ replicate n Absent
-all_absent xs n e f = ext_get_or Absent xs (replicate n Absent) (e ∙ sym (length-replicate n Absent)) (λ k h. f k (omega arith) ∙ sym (get_or-replicate n k Absent Absent (omega arith)))
 
 -- ---- one carrier more
 

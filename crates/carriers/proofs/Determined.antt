@@ -80,6 +80,13 @@ point_read M.Qam16 bits n =
 point_read M.Qam64 bits n =
     ap₂ (λ (x : List Bool) (y : List Bool). x ++ y) (level8_read (get_or bits (6 * n) false) (get_or bits (6 * n + 1) false) (get_or bits (6 * n + 2) false)) (level8_read (get_or bits (6 * n + 3) false) (get_or bits (6 * n + 4) false) (get_or bits (6 * n + 5) false))
 
+pub length_group : (m : Modulation) (bits : List Bool) (n : ℕ) → length (group m bits n) ≡ n_bpsc m
+unfolding group
+length_group M.Bpsk bits n = refl
+length_group M.Qpsk bits n = refl
+length_group M.Qam16 bits n = refl
+length_group M.Qam64 bits n = refl
+
 at_first : (bits : List Bool) (n b : ℕ) → get_or bits (b * n) false ≡ get_or bits (b * n + 0) false
 at_first bits n b = ap (λ (k : ℕ). get_or bits k false) (let z : b * n ≡ b * n + 0 = omega arith in z)
 

@@ -1,4 +1,5 @@
 pub mod Determined
+pub mod Mapping
 pub mod FirstBad
 pub mod Quantised
 pub mod WholePart

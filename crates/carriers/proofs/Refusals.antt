@@ -1,19 +1,11 @@
 -- What a check that refuses nothing says of the carriers, and which carriers it never refuses.
-use Rattle.std.proofs.Common.{◌≡◌, ℕ, zero, suc, ◌+◌, ◌<◌, Bool, true, false, cond, eqb, List, [], ◌∷◌, length, get_or, Some, None, Ok, Err, Option, refl, ap, ◌∙◌, arith, eq-eqb, eqb-true}
+use Rattle.std.proofs.Common.{◌≡◌, ℕ, zero, suc, ◌+◌, ◌<◌, Bool, true, false, cond, eqb, List, [], ◌∷◌, length, get_or, Some, None, Option, refl, ap, ◌∙◌, arith, eq-eqb, eqb-true}
 use Rattle.carriers.specs.declared.carrier.Carrier.{Carrier}
 use Rattle.carriers.specs.declared.fault.Axis.{Axis}
 use Rattle.carriers.specs.declared.carrier.Carrier.TheVariants.{Struck}
 use Rattle.carriers.specs.declared.fault.SymbolFault.TheVariants as SF
 use Rattle.carriers.specs.declared.fault.CarrierFault.{CarrierFault}
-use Rattle.carriers.specs.Fault.{checked, bad_axis, named, first_bad, carrier_fault, of_carrier, symbol_fault}
-
-pub accepted : {F : Type 0} (o : Option F) → Ok tt ≡ checked o → o ≡ None
-accepted None e = refl
-accepted (Some fault) e = absurd (let z : ◌≡◌ {A = ℕ} 0 1 = cc in omega arith)
-
-pub refused : {F : Type 0} (o : Option F) (fault : F) → Err fault ≡ checked o → o ≡ Some fault
-refused None fault e = absurd (let z : ◌≡◌ {A = ℕ} 0 1 = cc in omega arith)
-refused (Some other) fault e = cc
+use Rattle.carriers.specs.Fault.{bad_axis, named, first_bad, carrier_fault, of_carrier, symbol_fault}
 
 counted : (cs : List Carrier) (b : Bool) → eqb (length cs) 48 ≡ b → cond b (of_carrier (carrier_fault cs)) (Some (SF.Count (length cs))) ≡ None → length cs ≡ 48
 counted cs true is e = eqb-true (length cs) 48 is

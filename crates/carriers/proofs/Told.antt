@@ -21,7 +21,7 @@ use Rattle.carriers.specs.Demapper.{size, quantised, values, point_values, soft_
 use Rattle.carriers.specs.Fault.{bad_axis}
 use Rattle.carriers.specs.Received.{Received, Tells}
 use Rattle.carriers.proofs.Demapping.{length_soft, less_bound}
-use Rattle.carriers.proofs.Determined.{group, group_at, some_bits}
+use Rattle.carriers.proofs.Determined.{group, length_group, group_at, some_bits}
 use Rattle.carriers.proofs.Quantised.{quantised_bound}
 
 -- ---- every level favours its bits
@@ -96,13 +96,6 @@ favour_at p [] (b ∷ bs) t h f = absurd f
 favour_at p (v ∷ vs) [] t h f = absurd f
 favour_at p (v ∷ vs) (b ∷ bs) zero h f = f.0
 favour_at p (v ∷ vs) (b ∷ bs) (suc t) h f = favour_at p vs bs t (omega arith) f.1
-
-length_group : (m : Modulation) (bits : List Bool) (n : ℕ) → length (group m bits n) ≡ n_bpsc m
-unfolding group
-length_group M.Bpsk bits n = refl
-length_group M.Qpsk bits n = refl
-length_group M.Qam16 bits n = refl
-length_group M.Qam64 bits n = refl
 
 -- ---- one carrier, as sent or struck out
 

@@ -3,3 +3,4 @@ pub mod Fault
 pub mod Values
 pub mod Demapper
 pub mod Received
+pub mod Texts

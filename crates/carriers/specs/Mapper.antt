@@ -1,5 +1,5 @@
 -- The mapper: which point each group of coded bits is sent as.
-use Rattle.std.specs.Prelude.{ℕ, ◌+◌, ◌*◌, Bool, true, false, List, map, ℤ, pos, negsuc, slice_index_or, Float}
+use Rattle.std.specs.Prelude.{ℕ, ◌+◌, ◌*◌, Bool, true, false, List, [], ◌∷◌, map, ℤ, pos, negsuc, slice_index_or, Float}
 use Rattle.std.specs.Float.Ieee.{of_int}
 use Rattle.std.specs.Float.{binary32}
 use Rattle.std.specs.List.{range_with_len}
@@ -29,6 +29,13 @@ level8 true true false = pos 1
 level8 true true true = pos 3
 level8 true false true = pos 5
 level8 true false false = pos 7
+
+-- the level of a coordinate's bits, of which there are one, two or three
+abbrev pub level_of : List Bool → ℤ
+level_of (a ∷ []) = level2 a
+level_of (a ∷ b ∷ []) = level4 a b
+level_of (a ∷ b ∷ c ∷ []) = level8 a b c
+level_of bits = pos 0
 
 -- a level as a 32-bit float
 abbrev pub coordinate : ℤ → Float

@@ -11,14 +11,16 @@ use crate::carrier::{Carrier, Point};
 use crate::soft::SoftBit;
 use frame::rate::Modulation;
 
-// The size of a number. (-0.0 stays as it is: nothing below minds.)
+// The size of a number. -0.0 stays as it is, since nothing below minds: with the library's `abs`, which makes 0.0 of it, a BPSK
+// symbol takes an eighth longer.
 fn magnitude(x: f32) -> f32
     ensures { result ≡ (if Ieee.lt x float_zero then Ieee.neg x else x) }
 {
     if x < 0.0 { -x } else { x }
 }
 
-// The whole part of a number that is not below zero. The library's own goes by the bits of an `f64` and takes twice as long.
+// The whole part of a number that is not below zero. The library's cast goes by the bits of an `f64`: with it a symbol takes
+// twice as long.
 fn cut_size(size: f32) -> i16
     requires small { AtMost 128 size }
     requires above { Ieee.lt size float_zero ≡ false }
@@ -52,7 +54,7 @@ pub fn quantise(coordinate: f32) -> i16
     whole_part(limited * 16.0)
 }
 
-// The values of one coordinate's bits.
+// The values of one coordinate's bits. (Copied in from arrays by `copy_from_slice`, they take up to twice as long.)
 fn demap_axis(modulation: Modulation, r: i16, out: &mut [SoftBit])
     requires r_bound { unsigned_abs r ≤ 128 }
     requires out_len { length out.old ≡ length (values modulation r) }
@@ -60,8 +62,7 @@ fn demap_axis(modulation: Modulation, r: i16, out: &mut [SoftBit])
 {
     out[0] = SoftBit::Value(r);
     match modulation {
-        Modulation::Bpsk => {}
-        Modulation::Qpsk => {}
+        Modulation::Bpsk | Modulation::Qpsk => {}
         Modulation::Qam16 => out[1] = SoftBit::Value(32 - r.abs()),
         Modulation::Qam64 => {
             let second = 64 - r.abs();
@@ -81,14 +82,15 @@ fn demap_point(modulation: Modulation, point: Point, out: &mut [SoftBit])
     match modulation {
         Modulation::Bpsk => demap_axis(modulation, quantise(point.i), out),
         _ => {
-            let half = modulation.n_bpsc() / 2;
-            demap_axis(modulation, quantise(point.i), &mut out[0..half]);
-            demap_axis(modulation, quantise(point.q), &mut out[half..2 * half]);
+            let half = out.len() / 2;
+            let (first, second) = out.split_at_mut(half);
+            demap_axis(modulation, quantise(point.i), first);
+            demap_axis(modulation, quantise(point.q), second);
         }
     }
 }
 
-// Nothing was heard of any of these bits.
+// Nothing was heard of any of these bits. (With the library's `fill`, a QPSK symbol takes a fifth longer.)
 fn erase(out: &mut [SoftBit])
     ensures { out.new ≡ replicate (length out.old) Absent }
 {
@@ -109,7 +111,7 @@ fn demap_carrier(modulation: Modulation, carrier: Carrier, out: &mut [SoftBit])
     }
 }
 
-// What carriers of BITS bits say of them.
+// What carriers of BITS bits say of them. (Over a `zip` with `chunks_exact_mut` a proof knows nothing of what was written.)
 fn demap_carriers<const BITS: usize>(
     modulation: Modulation,
     carriers: &[Carrier],
@@ -120,9 +122,9 @@ fn demap_carriers<const BITS: usize>(
     requires out_len { length out.old ≡ length carriers.now * n_bpsc modulation }
     ensures { out.new ≡ demapped modulation carriers.now }
 {
-    for n in 0..carriers.len() {
+    for (n, carrier) in carriers.iter().enumerate() {
         let at = BITS * n;
-        demap_carrier(modulation, carriers[n], &mut out[at..at + BITS]);
+        demap_carrier(modulation, *carrier, &mut out[at..at + BITS]);
     }
 }
 

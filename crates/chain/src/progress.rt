@@ -1,7 +1,6 @@
 // What is printed before the first symbol of a sending.
 use crate::failure::Failure;
-use frame::data::{pad_count, symbol_count};
-use frame::header::header;
+use frame::header::Header;
 use frame::rate::Rate;
 use phy::fault::SendFault;
 use std::fmt;
@@ -22,16 +21,17 @@ impl fmt::Display for Bits<'_> {
 // Prints how the bytes will be sent, and returns the number of symbols, the header among them. For a sending that was
 // made, neither refusal below can come.
 pub fn announce(rt: &HostRuntime, rate: u32, seed: u32, bytes: &[u8]) -> Result<usize, Failure> {
-    let Some(known) = Rate::from_number(rate) else {
-        return Err(Failure::Refused(SendFault::Rate(rate)));
-    };
+    let known = Rate::try_from(rate).map_err(|unknown| Failure::Refused(SendFault::from(unknown)))?;
     let Ok(length) = u16::try_from(bytes.len()) else {
         return Err(Failure::Refused(SendFault::Length(bytes.len())));
     };
-    let symbols = symbol_count(known, length);
-    let pad = pad_count(known, length);
+    let header = Header {
+        rate: known,
+        length,
+    };
+    let symbols = header.symbol_count();
+    let pad = header.pad_count();
     println!(rt; "sending rate={rate} seed={seed} length={length} symbols={symbols} pad={pad}")?;
-    let bits = header(known, length);
-    println!(rt; "header bits={}", Bits(&bits))?;
+    println!(rt; "header bits={}", Bits(&header.bits()))?;
     Ok(symbols.saturating_add(1))
 }

@@ -1,9 +1,9 @@
 -- Back from the places of an interleaved symbol.
-use Rattle.std.proofs.Common.{◌≡◌, ℕ, ◌+◌, ◌<◌, Bool, true, false, cond, not, eqb, List, length, get_or, set, sym, ap, ◌∙◌, subst, inl, inr, arith, get_or-set_other, get_or-set_same}
+use Rattle.std.proofs.Common.{◌≡◌, ℕ, ◌+◌, ◌*◌, ◌<◌, Bool, true, false, cond, not, eqb, List, length, get_or, set, sym, ap, ◌∙◌, subst, inl, inr, arith, get_or-set_other, get_or-set_same}
 use Rattle.std.proofs.lemmas.Bool.{cases_eq}
 use Rattle.std.proofs.lemmas.List.FromFn.{fill_by_all, get_or-map-range_with_len, length-map-range_with_len}
 use Rattle.coding.specs.Interleaver.{Grid, place, source, Inverse, Placed, target, origin, Moved, interleaved, deinterleaved, ComesBack}
-use Rattle.coding.proofs.Interleaving.{undone}
+use Rattle.coding.proofs.Interleaving.{undone, grid_over, within, fetched, places}
 
 -- a flag among the const parameters, which a proof has as a number
 abbrev pub flag : ℕ → Bool
@@ -41,6 +41,15 @@ ends_at back columns s t n j k o m g h e p q =
       target_fits = subst (λ (z : ℕ). z < n) (sym to) (target_below back columns n s j u h);
     }
 
+-- the same at place i of a group, by what the code computed of it
+pub ends_in_group : (back : Bool) (columns s t n column group i k o m : ℕ) → Grid columns s t (columns * (s * t)) → n ≡ columns * (s * t) → column < columns → group < t → i < s →
+    k ≡ source columns (columns * (s * t)) s (s * (t * column + group) + i) → o ≡ cond back (s * (t * column + group) + i) k → m ≡ cond back k (s * (t * column + group) + i) →
+    Ends back columns n s (s * (t * column + group) + i) o m
+ends_in_group back columns s t n column group i k o m g long hc hg hi e p q =
+    let grid = grid_over columns s t n g long in
+    let w = within columns s t n column group grid hc hg in
+    ends_at back columns s t n (s * (t * column + group) + i) k o m grid (omega (arith, w.fits)) (e ∙ ap (λ (z : ℕ). source columns z s (s * (t * column + group) + i)) (sym long)) p q
+
 -- one place more
 module _ {X : Type 0} (back : Bool) (columns s t : ℕ) (xs : List X) (g : Grid columns s t (length xs)) where
   pub moved_more : (ys : List X) (m i : ℕ) (y : X) → length ys ≡ length xs → i < length xs → m ≡ target back columns (length xs) s i →
@@ -58,7 +67,15 @@ module _ {X : Type 0} (back : Bool) (columns s t : ℕ) (xs : List X) (g : Grid 
             get_or-set_other ys m (to j) y d (λ met. other (target_apart back columns n s j i u (omega arith) h (met ∙ is))) ∙ f j d (omega arith)
       ]
 
--- a list taken back: it is what the definition says, and each bit stands at its place
+-- a list sent there: it is what the definition says, and each bit stands at its place
+module _ {X : Type 0} (columns s t : ℕ) (xs : List X) (g : Grid columns s t (length xs)) (ys : List X) where
+  pub sent_there : length ys ≡ length xs → Moved false columns s xs ys (length xs) → (d : X) → ys ≡ interleaved d columns s xs
+  sent_there long f d = fetched columns s t xs g ys long f d
+
+  pub stands : Moved false columns s xs ys (length xs) → Placed columns s xs ys
+  stands f = places columns s t xs g ys f
+
+-- a list taken back: the same
 module _ {X : Type 0} (columns s t : ℕ) (xs : List X) (g : Grid columns s t (length xs)) (ys : List X) (long : length ys ≡ length xs) where
   taken : Moved true columns s xs ys (length xs) → (k : ℕ) (d : X) → k < length xs → get_or ys k d ≡ get_or xs (place columns (length xs) s k) d
   taken f k d h =

@@ -1,14 +1,17 @@
 -- One bit more through the coder and the puncturing.
-use Rattle.std.proofs.Common.{◌≡◌, ℕ, zero, suc, ◌+◌, ◌*◌, ◌%◌, ◌<◌, ◌≤◌, Bool, false, cond, List, [], ◌∷◌, ◌++◌, length, get_or, take, sym, refl, ap, ◌∙◌, subst, ap₂, arith}
-use Rattle.frame.specs.Bits.{bit_of, bit_at}
+use Rattle.std.proofs.Common.{◌≡◌, ℕ, ◌+◌, ◌-◌, ◌*◌, ◌/◌, ◌%◌, ◌<◌, ◌≤◌, Bool, false, cond, List, [], ◌∷◌, ◌++◌, length, get_or, take, drop, sym, refl, ap, ◌∙◌, subst, ap₂, add-mul, zero-mul, mul_comm, arith}
+use native.Mathlib.Nat.{div-add-mod, mul-mod_left}
+use Rattle.std.proofs.Math.Seq.{take-add}
+use borrow.Rule.Slice.PartMut.{mid_of, put_mid}
+use Rattle.std.proofs.lemmas.Slice.{take-put_mid}
+use Rattle.frame.specs.Bits.{bit_of}
 use Rattle.std.proofs.lemmas.List.{append_assoc, take_more, take_all, length-take-le}
 use Rattle.frame.specs.declared.rate.CodeRate.{CodeRate}
-use Rattle.frame.specs.declared.rate.CodeRate.TheVariants as C
 use Rattle.coding.specs.Coder.{next_state, outputs, coded_from, state_from}
-use Rattle.coding.specs.Puncturing.{pattern, sent_of, kept, punctured, sent_count}
-use Rattle.coding.specs.Encoding.{Drawn, Put, Underway, Encoded}
+use Rattle.coding.specs.Puncturing.{pattern, sent_of, kept, punctured_from, punctured, sent_count, Period}
+use Rattle.coding.specs.Encoding.{Put, Underway, Encoded}
 use Rattle.coding.proofs.States.{coded_append, state_append, length_coded}
-use Rattle.coding.proofs.Punctured.{punctured_push, room, count_none, count_more, sent_again}
+use Rattle.coding.proofs.Punctured.{punctured_append, punctured_push, punctured_again, room, count_none, count_more, sent_again, count_to_period, period_within}
 
 state_more : (s held i held' : ℕ) (bits : List Bool) → i < length bits → held ≡ state_from s (take i bits) → held' ≡ next_state held (get_or bits i false) → held' ≡ state_from s (take (i + 1) bits)
 state_more s held i held' bits h e f =
@@ -34,11 +37,10 @@ punctured_more c s held i bits xs ys zs pair send h e p k y z x =
 module _ (bits : List Bool) (c : CodeRate) (before i held place : ℕ) (out : List Bool) (u : Underway bits c before i held place out) where
   pub underway_more : (at at' held' : ℕ) (mid out' : List Bool) (pair send : Bool × Bool) → i < length bits → send ≡ sent_of c i → pair ≡ outputs held (get_or bits i false) →
       Put out place send.0 pair.0 at mid → Put mid at send.1 pair.1 at' out' → length out' ≡ length out →
-      held' ≡ next_state held (get_or bits i false) → held' < 64 → Underway bits c before (i + 1) held' at' out'
-  underway_more at at' held' mid out' pair send h k p A B l n six =
+      held' ≡ next_state held (get_or bits i false) → Underway bits c before (i + 1) held' at' out'
+  underway_more at at' held' mid out' pair send h k p A B l n =
       let more : sent_count c (i + 1) ≡ sent_count c i + (bit_of send.0 + bit_of send.1) = rw k (count_more c i) in
       record {
-        six_bits = six;
         room = l ∙ u.room;
         counted = omega (arith, more, A.moved, B.moved, u.counted);
         left = state_more before held i held' bits h u.left n;
@@ -55,56 +57,62 @@ module _ (bits : List Bool) (c : CodeRate) (before i held place : ℕ) (out : Li
       let full : place ≡ length out = u.counted ∙ ap (sent_count c) e ∙ sym u.room in
       record {
         left = u.left ∙ ap (state_from before) whole;
-        six_bits = u.six_bits;
         written = sym (take_all place out (omega arith)) ∙ u.written ∙ ap (λ (q : List Bool). punctured c (coded_from before q)) whole;
       }
 
-pub underway_none : (bits : List Bool) (c : CodeRate) (before : ℕ) (out : List Bool) → before < 64 → length out ≡ sent_count c (length bits) → Underway bits c before 0 before 0 out
-underway_none bits c before out h e = record { six_bits = h; room = e; counted = sym (count_none c); left = refl; written = refl }
+pub underway_none : (bits : List Bool) (c : CodeRate) (before : ℕ) (out : List Bool) → length out ≡ sent_count c (length bits) → Underway bits c before 0 before 0 out
+underway_none bits c before out e = record { room = e; counted = sym (count_none c); left = refl; written = refl }
 
--- the pattern's marks at a pair of any period
-pub drawn_at : (c : CodeRate) (period a b first t : ℕ) → Drawn c period a b → first % period ≡ 0 → t < period → ◌≡◌ {A = Bool × Bool} (bit_at a t, bit_at b t) (sent_of c (first + t))
-drawn_at c period a b first t d whole h =
-    let again = sent_again c first (ap (λ (p : ℕ). first % p) (sym d.long) ∙ whole) 1 t in
-    d.marks t h ∙ sym again ∙ ap (sent_of c) (let z : 1 * first + t ≡ first + t = omega arith in z)
+-- a row that is coded after whole periods
+pub encoded_more : (c : CodeRate) (before held after : ℕ) (xs ys out out' : List Bool) → length xs % length (pattern c) ≡ 0 →
+    Encoded xs c before held out → Encoded ys c held after out' → Encoded (xs ++ ys) c before after (out ++ out')
+encoded_more c before held after xs ys out out' whole first next =
+    let A = coded_from before xs in
+    let B = coded_from (state_from before xs) ys in
+    let d = length A in
+    let periods : d % length (pattern c) ≡ 0 = ap (λ (z : ℕ). z % length (pattern c)) (length_coded before xs) ∙ whole in
+    let again : (i : ℕ) → sent_of c (d + i) ≡ sent_of c i =
+    λ i. ap (sent_of c) (let z : d + i ≡ 1 * d + i = omega arith in z) ∙ sent_again c d periods 1 i in
+    let rest : punctured_from (sent_of c) (0 + d) B ≡ punctured c B =
+    ap (λ (z : ℕ). punctured_from (sent_of c) z B) (let z : 0 + d ≡ d + 0 = omega arith in z) ∙ punctured_again (sent_of c) d again 0 B in
+    record {
+      left = next.left ∙ ap (λ (z : ℕ). state_from z ys) first.left ∙ sym (state_append before xs ys);
+      written = ap₂ (λ (x : List Bool) (y : List Bool). x ++ y) first.written (next.written ∙ ap (λ (z : ℕ). punctured c (coded_from z ys)) first.left)
+          ∙ sym (ap (punctured c) (coded_append before xs ys) ∙ punctured_append (sent_of c) 0 A B ∙ ap (λ (z : List Bool). punctured c A ++ z) rest);
+    }
 
--- the same of the marks that the code read
-pub marks_at : (c : CodeRate) (period a b first t : ℕ) (marks : Bool × Bool) → Drawn c period a b → first % period ≡ 0 → t < period →
-    marks.0 ≡ bit_at a t → marks.1 ≡ bit_at b t → marks ≡ sent_of c (first + t)
-marks_at c period a b first t marks d whole h p q = ap₂ (λ (x : Bool) (y : Bool). (x, y)) p q ∙ drawn_at c period a b first t d whole h
+-- period k coded after those before it
+pub encoded_period : (c : CodeRate) (pairs sent : ℕ) → Period c pairs sent → (bits out part : List Bool) (before held after k width : ℕ) →
+    k < length bits / pairs → length out ≡ sent_count c (length bits) → length part ≡ sent → Encoded (take (k * pairs) bits) c before held (take (k * sent) out) →
+    Encoded (mid_of (k * pairs) (k * pairs + pairs - k * pairs) bits) c held after part → Encoded (take ((k + 1) * pairs) bits) c before after (take ((k + 1) * sent) (put_mid (k * sent) width out part))
+encoded_period c pairs sent p bits out part before held after k width h room long first next =
+    let w = period_within c pairs sent (length bits) k p h in
+    let p_next : (k + 1) * pairs ≡ k * pairs + pairs = add-mul k 1 pairs ∙ ap (λ (z : ℕ). k * pairs + z) (let z : 1 * pairs ≡ pairs = omega arith in z) in
+    let s_next : (k + 1) * sent ≡ k * sent + sent = add-mul k 1 sent ∙ ap (λ (z : ℕ). k * sent + z) (let z : 1 * sent ≡ sent = omega arith in z) in
+    let one : pairs ≡ k * pairs + pairs - k * pairs = omega arith in
+    let front : take ((k + 1) * pairs) bits ≡ take (k * pairs) bits ++ mid_of (k * pairs) (k * pairs + pairs - k * pairs) bits =
+    ap (λ (z : ℕ). take z bits) p_next ∙ take-add (k * pairs) pairs bits ∙ ap (λ (z : ℕ). take (k * pairs) bits ++ take z (drop (k * pairs) bits)) one in
+    let back : take ((k + 1) * sent) (put_mid (k * sent) width out part) ≡ take (k * sent) out ++ part =
+    take-put_mid (k * sent) width out part ((k + 1) * sent) (omega (arith, s_next, long)) (omega (arith, w.sent_fit, room)) in
+    let whole : length (take (k * pairs) bits) % length (pattern c) ≡ 0 =
+    ap₂ (λ (x : ℕ) (y : ℕ). x % y) (length-take-le (k * pairs) bits (omega (arith, w.pairs_fit))) (sym p.long) ∙ mul-mod_left k pairs in
+    subst (λ (z : List Bool). Encoded z c before after (take ((k + 1) * sent) (put_mid (k * sent) width out part))) (sym front)
+    (subst (λ (z : List Bool). Encoded (take (k * pairs) bits ++ mid_of (k * pairs) (k * pairs + pairs - k * pairs) bits) c before after z) (sym back)
+    (encoded_more c before held after (take (k * pairs) bits) (mid_of (k * pairs) (k * pairs + pairs - k * pairs) bits) (take (k * sent) out) part whole first next))
 
--- whole periods, by the pattern's own length
-pub whole_periods : (c : CodeRate) (period a b n : ℕ) → Drawn c period a b → n % length (pattern c) ≡ 0 → n % period ≡ 0
-whole_periods c period a b n d e = ap (λ (p : ℕ). n % p) d.long ∙ e
+-- no period yet, and all of them
+pub encoded_none : (c : CodeRate) (pairs sent before : ℕ) (bits out : List Bool) → Encoded (take (0 * pairs) bits) c before before (take (0 * sent) out)
+encoded_none c pairs sent before bits out =
+    subst (λ (z : ℕ). Encoded (take z bits) c before before (take (0 * sent) out)) (sym (zero-mul pairs))
+    (subst (λ (z : ℕ). Encoded [] c before before (take z out)) (sym (zero-mul sent)) (record { left = refl; written = refl }))
 
--- a pattern that was drawn for the coding rate at hand
-pub drawn_as : (c c' : CodeRate) (period a b : ℕ) → c ≡ c' → Drawn c' period a b → Drawn c period a b
-drawn_as c c' period a b is d = subst (λ (r : CodeRate). Drawn r period a b) (sym is) d
-
--- the three patterns
-pub drawn_half : Drawn C.Half 1 0b1 0b1
-unfolding sent_of
-drawn_half = record { long = refl; short = omega arith; some = omega arith; marks = at }
-  where
-    at : (t : ℕ) → t < 1 → ◌≡◌ {A = Bool × Bool} (bit_at 0b1 t, bit_at 0b1 t) (sent_of C.Half t)
-    at zero h = refl
-    at (suc t) h = absurd (omega arith)
-
-pub drawn_two_thirds : Drawn C.TwoThirds 2 0b11 0b01
-unfolding sent_of
-drawn_two_thirds = record { long = refl; short = omega arith; some = omega arith; marks = at }
-  where
-    at : (t : ℕ) → t < 2 → ◌≡◌ {A = Bool × Bool} (bit_at 0b11 t, bit_at 0b01 t) (sent_of C.TwoThirds t)
-    at zero h = refl
-    at (suc zero) h = refl
-    at (suc (suc t)) h = absurd (omega arith)
-
-pub drawn_three_quarters : Drawn C.ThreeQuarters 3 0b011 0b101
-unfolding sent_of
-drawn_three_quarters = record { long = refl; short = omega arith; some = omega arith; marks = at }
-  where
-    at : (t : ℕ) → t < 3 → ◌≡◌ {A = Bool × Bool} (bit_at 0b011 t, bit_at 0b101 t) (sent_of C.ThreeQuarters t)
-    at zero h = refl
-    at (suc zero) h = refl
-    at (suc (suc zero)) h = refl
-    at (suc (suc (suc t))) h = absurd (omega arith)
+pub encoded_whole : (c : CodeRate) (pairs sent k before after : ℕ) → Period c pairs sent → (bits out : List Bool) → length bits % pairs ≡ 0 → k ≡ length bits / pairs →
+    length out ≡ sent_count c (length bits) → Encoded (take (k * pairs) bits) c before after (take (k * sent) out) → Encoded bits c before after out
+encoded_whole c pairs sent k before after p bits out whole all room e =
+    let n = length bits in
+    let long : k * pairs ≡ n = ap (λ (z : ℕ). z * pairs) all ∙ mul_comm (n / pairs) pairs ∙ (let w : pairs * (n / pairs) ≡ n = omega (arith, div-add-mod n pairs, whole) in w) in
+    let full : k * sent ≡ length out = sym (count_to_period c pairs sent p k) ∙ ap (sent_count c) long ∙ sym room in
+    record {
+      left = e.left ∙ ap (state_from before) (take_all (k * pairs) bits (omega arith));
+      written = sym (take_all (k * sent) out (omega arith)) ∙ e.written ∙ ap (λ (z : List Bool). punctured c (coded_from before z)) (take_all (k * pairs) bits (omega arith));
+    }

@@ -1,11 +1,13 @@
 -- The interleaver's permutations and their inverses, over every grid: s is the turn, t the groups of a column.
-use Rattle.std.proofs.Common.{◌≡◌, ℕ, suc, ◌+◌, ◌-◌, ◌*◌, ◌/◌, ◌%◌, ◌<◌, ◌≤◌, List, length, get_or, set, sym, refl, ap, ◌∙◌, subst, ap₂, inl, inr, add_assoc, mul-le-mul_right, mod-eq_of_lt, mul_assoc, mul_comm, add-mul, mul-le-mul_left, mul-pos, mul-suc, mul-add, sub-add_cancel, mul_left_comm, arith, get_or-set_other, get_or-set_same}
+use Rattle.std.proofs.Common.{◌≡◌, ℕ, suc, ◌+◌, ◌-◌, ◌*◌, ◌/◌, ◌%◌, ◌<◌, ◌≤◌, List, length, get_or, sym, refl, ap, ◌∙◌, subst, ap₂, add_assoc, mul-le-mul_right, mod-eq_of_lt, mul_assoc, mul_comm, add-mul, mul-le-mul_left, mul-pos, mul-suc, mul-add, sub-add_cancel, mul_left_comm, arith}
 use native.Mathlib.Nat.{add-mod-mod, mul-add-div, mod-eq-sub-mod, mul-div-mul_left, mul-div_cancel_left, div-div-eq-div-mul, mod-add-mod, mul-add-mod_self_left, add-mul-mod_self_left, div-add-mod}
-use Rattle.std.proofs.lemmas.Bool.{cases_eq}
 use Rattle.std.proofs.lemmas.List.FromFn.{fill_by_all, get_or-map-range_with_len}
 use Rattle.std.proofs.lemmas.List.{ext_get_or, get_or_read}
 use Rattle.std.proofs.lemmas.Nat.{div_below, div-mul-add, mul-add-lt, mod_below}
-use Rattle.coding.specs.Interleaver.{Grid, spread, turn, place, unturn, unspread, source, Inverse, Placed, Filled, interleaved}
+use Rattle.frame.specs.declared.rate.Modulation.{Modulation}
+use Rattle.frame.specs.declared.rate.Modulation.TheVariants as M
+use Rattle.frame.specs.Rate.{n_bpsc}
+use Rattle.coding.specs.Interleaver.{Grid, spread, turn, place, unturn, unspread, source, Inverse, Placed, interleaved, turn_size}
 
 -- a group and a place in it
 group_of : (s q b : ℕ) → b < s → (s * q + b) / s ≡ q
@@ -158,6 +160,10 @@ pub undone : (columns s groups n : ℕ) → Grid columns s groups n → Inverse 
 undone columns s groups n g =
     subst (λ (z : ℕ). Inverse columns z s) (sym g.whole) (inverse_whole columns s groups g.some_columns g.some_size g.some_groups)
 
+-- a grid by its own size, over a row of that many
+pub grid_over : (columns s t n : ℕ) → Grid columns s t (columns * (s * t)) → n ≡ columns * (s * t) → Grid columns s t n
+grid_over columns s t n g e = record { some_columns = g.some_columns; some_size = g.some_size; some_groups = g.some_groups; whole = e }
+
 -- what the code computes, at a row of a column
 module _ (columns s t n column row : ℕ) (g : Grid columns s t n) (hc : column < columns) (hr : row < s * t) where
   turned_row : ℕ
@@ -250,16 +256,6 @@ within columns s t n column group g hc hg =
 pub read_at : {X : Type 0} (xs : List X) (i k : ℕ) (x : X) → i < length xs → x ≡ get_or xs i x → i ≡ k → (d : X) → x ≡ get_or xs k d
 read_at xs i k x h e same d = get_or_read xs i x h e d ∙ ap (λ (z : ℕ). get_or xs z d) same
 
--- one place more
-module _ {X : Type 0} (columns s : ℕ) (xs : List X) where
-  pub filled_more : (ys : List X) (n i : ℕ) (y : X) → i < length ys → n + i < length ys → ((d : X) → y ≡ get_or xs (source columns (length xs) s (n + i)) d) →
-      Filled columns s xs ys (n + i) → Filled columns s xs (set ys (n + i) y) (n + (i + 1))
-  filled_more ys n i y h l e f j d k =
-      elim (cases_eq j (n + i)) [
-        | inl same ↦ subst (λ (z : ℕ). get_or (set ys (n + i) y) z d ≡ get_or xs (source columns (length xs) s z) d) (sym same) (get_or-set_same ys (n + i) y d l ∙ e d)
-        | inr other ↦ get_or-set_other ys (n + i) j y d other ∙ f j d (omega arith)
-      ]
-
 -- a list interleaved holds each bit at its place, and is as long
 module _ {X : Type 0} (columns s t : ℕ) (xs : List X) (g : Grid columns s t (length xs)) where
   pub fetched : (ys : List X) → length ys ≡ length xs → ((j : ℕ) (d : X) → j < length xs → get_or ys j d ≡ get_or xs (source columns (length xs) s j) d) → (d : X) → ys ≡ interleaved d columns s xs
@@ -286,3 +282,17 @@ interleaved_determines {X} d columns s t xs ys g long e =
     ∙ ap (λ (n : ℕ). get_or zs (source columns n s p) d) l ∙ ap (λ (i : ℕ). get_or zs i d) (u.source_place k h) in
     ext_get_or d xs ys long (λ k h.
     sym (at xs refl k h) ∙ ap (λ (zs : List X). get_or zs (place columns (length xs) s k) d) e ∙ at ys (sym long) k h)
+
+-- a symbol's places as a grid: how many groups a column has
+unfoldable pub groups : Modulation → ℕ
+groups M.Bpsk = 3
+groups M.Qpsk = 6
+groups M.Qam16 = 6
+groups M.Qam64 = 6
+
+pub symbol_grid : (m : Modulation) (n : ℕ) → n ≡ 48 * n_bpsc m → Grid 16 (turn_size m) (groups m) n
+unfolding groups
+symbol_grid M.Bpsk n e = record { some_columns = omega arith; some_size = omega arith; some_groups = omega arith; whole = e }
+symbol_grid M.Qpsk n e = record { some_columns = omega arith; some_size = omega arith; some_groups = omega arith; whole = e }
+symbol_grid M.Qam16 n e = record { some_columns = omega arith; some_size = omega arith; some_groups = omega arith; whole = e }
+symbol_grid M.Qam64 n e = record { some_columns = omega arith; some_size = omega arith; some_groups = omega arith; whole = e }

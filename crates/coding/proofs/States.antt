@@ -4,7 +4,6 @@ use lib.Bits.{bit_and}
 use lib.Count.{ones}
 use mir.Val.{bool_byte}
 use Rattle.frame.specs.Bits.{bit_of}
-use Rattle.frame.proofs.Bits.{bit_small}
 use Rattle.coding.specs.Coder.{next_state, tapped, outputs, coded_from, state_from}
 
 -- a bit as the program makes a number of it
@@ -12,9 +11,9 @@ byte_is : (b : Bool) → bool_byte b ≡ bit_of b
 byte_is true = refl
 byte_is false = refl
 
-pub next_state_is : (s : ℕ) (b : Bool) → s < 64 → (s / 2 + 32 * bool_byte b ≡ next_state s b) × (s / 2 + 32 * bool_byte b < 64)
+pub next_state_is : (s : ℕ) (b : Bool) → s / 2 + 32 * bool_byte b ≡ next_state s b
 unfolding next_state
-next_state_is s b h = (ap (λ (x : ℕ). s / 2 + 32 * x) (byte_is b), omega (arith, byte_is b, bit_small b))
+next_state_is s b = ap (λ (x : ℕ). s / 2 + 32 * x) (byte_is b)
 
 pub outputs_are : (s : ℕ) (b : Bool) →
     ◌≡◌ {A = Bool × Bool} (eqb (ones (bit_and (64 * bool_byte b + s) 91) % 2) 1, eqb (ones (bit_and (64 * bool_byte b + s) 121) % 2) 1) (outputs s b)

@@ -1,25 +1,9 @@
 -- Depuncturing, which puts the stolen outputs back as holes.
-use Rattle.std.specs.Prelude.{◌≡◌, ℕ, ◌+◌, ◌<◌, Bool, cond, List, [], ◌∷◌, ◌++◌, map, length, slice_index_or}
+use Rattle.std.specs.Prelude.{◌≡◌, ℕ, ◌+◌, ◌<◌, cond, List, map, length, slice_index_or}
 use Rattle.std.specs.List.{range_with_len}
 use Rattle.frame.specs.declared.rate.CodeRate.{CodeRate}
 use Rattle.frame.specs.Bits.{bit_of}
 use Rattle.coding.specs.Puncturing.{sent_of, sent_count, punctured}
-
--- Puncturing of pairs of anything, and not of the coder's bits alone, as `kept` and `punctured` are: of one pair, what is sent
-abbrev pub kept_of : {X : Type 0} → Bool × Bool → X × X → List X
-kept_of send pair = cond send.0 (pair.0 ∷ []) [] ++ cond send.1 (pair.1 ∷ []) []
-
--- of a row of pairs whose first is pair i
-abbrev pub punctured_of_from : {X : Type 0} → (ℕ → Bool × Bool) → ℕ → List (X × X) → List X
-punctured_of_from send i [] = []
-punctured_of_from send i (pair ∷ pairs) = kept_of (send i) pair ++ punctured_of_from send (i + 1) pairs
-
-abbrev pub punctured_of : {X : Type 0} → CodeRate → List (X × X) → List X
-punctured_of c pairs = punctured_of_from (sent_of c) 0 pairs
-
--- of the coder's outputs it is the puncturing by which frames are sent
-abbrev pub PuncturesAlike : Type 0
-PuncturesAlike = (c : CodeRate) (pairs : List (Bool × Bool)) → punctured_of c pairs ≡ punctured c pairs
 
 -- pair i from what was sent of a row of pairs: A and B stand where the pattern counts them, and a stolen one is put back as a hole
 abbrev pub restored : {X : Type 0} → X → CodeRate → List X → ℕ → X × X
@@ -42,4 +26,4 @@ with_holes hole c pairs i = (cond (sent_of c i).0 (slice_index_or pairs i (hole,
 abbrev pub DepuncturingUndoes : Type 0 → Type 0
 DepuncturingUndoes X =
     (c : CodeRate) (hole : X) (pairs : List (X × X)) →
-    depunctured hole c (length pairs) (punctured_of c pairs) ≡ map (with_holes hole c pairs) (range_with_len 0 (length pairs))
+    depunctured hole c (length pairs) (punctured c pairs) ≡ map (with_holes hole c pairs) (range_with_len 0 (length pairs))

@@ -1,16 +1,9 @@
 -- A row of bits coded and punctured, from the coder's state before it.
-use Rattle.std.specs.Prelude.{◌≡◌, ℕ, ◌+◌, ◌<◌, ◌≤◌, Bool, cond, List, [], ◌∷◌, ◌++◌, length, take}
+use Rattle.std.specs.Prelude.{◌≡◌, ℕ, ◌+◌, Bool, cond, List, [], ◌∷◌, ◌++◌, length, take}
 use Rattle.frame.specs.declared.rate.CodeRate.{CodeRate}
-use Rattle.frame.specs.Bits.{bit_of, bit_at}
+use Rattle.frame.specs.Bits.{bit_of}
 use Rattle.coding.specs.Coder.{coded_from, state_from}
-use Rattle.coding.specs.Puncturing.{pattern, sent_of, punctured, sent_count}
-
--- the pattern of a coding rate as its period and two numbers, bit t of which says whether A, or B, is sent of pair t
-pub record Drawn (c : CodeRate) (period a b : ℕ) : Type 0 where
-  pub long : period ≡ length (pattern c)
-  pub short : period ≤ 8
-  pub some : 0 < period
-  pub marks : (t : ℕ) → t < period → ◌≡◌ {A = Bool × Bool} (bit_at a t, bit_at b t) (sent_of c t)
+use Rattle.coding.specs.Puncturing.{punctured, sent_count}
 
 -- a bit was written at `place` if it is sent, and r is the place after it
 pub record Put (out : List Bool) (place : ℕ) (send bit : Bool) (r : ℕ) (out' : List Bool) : Type 0 where
@@ -19,7 +12,6 @@ pub record Put (out : List Bool) (place : ℕ) (send bit : Bool) (r : ℕ) (out'
 
 -- the first i bits are coded: the coder is in the state `held`, and the first `place` places of `out` are written
 pub record Underway (bits : List Bool) (c : CodeRate) (before i held place : ℕ) (out : List Bool) : Type 0 where
-  pub six_bits : held < 64
   pub room : length out ≡ sent_count c (length bits)
   pub counted : place ≡ sent_count c i
   pub left : held ≡ state_from before (take i bits)
@@ -28,5 +20,4 @@ pub record Underway (bits : List Bool) (c : CodeRate) (before i held place : ℕ
 -- all bits are coded
 pub record Encoded (bits : List Bool) (c : CodeRate) (before after : ℕ) (out : List Bool) : Type 0 where
   pub left : after ≡ state_from before bits
-  pub six_bits : after < 64
   pub written : out ≡ punctured c (coded_from before bits)

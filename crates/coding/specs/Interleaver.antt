@@ -45,10 +45,6 @@ deinterleaved d columns s ys = map (λ k. slice_index_or ys (place columns (leng
 abbrev pub Placed : {X : Type 0} → ℕ → ℕ → List X → List X → Type 0
 Placed {X} columns s xs ys = (k : ℕ) (d : X) → k < length xs → slice_index_or ys (place columns (length xs) s k) d ≡ slice_index_or xs k d
 
--- the first n places of ys hold what goes there
-abbrev pub Filled : {X : Type 0} → ℕ → ℕ → List X → List X → ℕ → Type 0
-Filled {X} columns s xs ys n = (j : ℕ) (d : X) → j < n → slice_index_or ys j d ≡ slice_index_or xs (source columns (length xs) s j) d
-
 -- a walk through the places that serves either way: at place j it moves what stands at `origin` to `target`, which are the source
 -- and its place, or on the way back the place and its source
 abbrev pub target : Bool → ℕ → ℕ → ℕ → ℕ → ℕ

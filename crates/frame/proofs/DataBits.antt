@@ -1,9 +1,12 @@
 -- One data bit, and a stretch of them.
-use Rattle.std.proofs.Common.{◌≡◌, ℕ, zero, suc, ◌+◌, ◌-◌, ◌*◌, ◌/◌, ◌%◌, ◌^◌, ◌<◌, ◌≤◌, Bool, true, false, cond, eqb, ltb, leb, List, ◌∷◌, ◌++◌, length, get_or, sym, refl, ap, ◌∙◌, subst, ap₂, inl, inr, mod-lt, mul_comm, mul-le-mul_left, arith, shr-shr}
+use Rattle.std.proofs.Common.{◌≡◌, ℕ, zero, suc, ◌+◌, ◌-◌, ◌*◌, ◌/◌, ◌%◌, ◌^◌, ◌<◌, ◌≤◌, Bool, true, false, cond, eqb, ltb, leb, List, ◌∷◌, ◌++◌, length, get_or, sym, refl, ap, ◌∙◌, subst, ap₂, inl, inr, mod-lt, mul_comm, mul-le-mul_left, arith, shr-shr, add-mul}
 use native.Mathlib.Nat.{div-add-mod, zero-div}
 use Rattle.std.proofs.lemmas.List.FromFn.{fill_by_all, get_or-map-range_with_len, length-map-range_with_len}
 use Rattle.std.proofs.lemmas.List.{get_or_past, ext_get_or}
 use Rattle.std.proofs.lemmas.Bool.{cond-true, cond-false, and_from, and_parts, and_left, and_right, le-leb, lt-leb, lt-ltb, le-ltb, leb-true, ltb-true, cases_lt, cases_eq, cases_Bool}
+use Rattle.std.specs.Int.{div_ceil}
+use Rattle.std.proofs.lemmas.Grind.{div_ceil_times}
+use Rattle.std.proofs.Math.Nat.{div-eq_of_lt-le}
 use Rattle.frame.specs.declared.rate.Rate.{Rate}
 use Rattle.frame.specs.declared.rate.Rate.TheVariants as R
 use Rattle.frame.specs.Rate.{shape, n_cbps, n_dbps}
@@ -11,6 +14,8 @@ use Rattle.frame.specs.Bits.{differs, bit_at}
 use Rattle.frame.specs.Scrambler.{key_bit, register_after, key as key_of}
 use Rattle.frame.specs.Streaming.{Masked, bits_under}
 use Rattle.frame.proofs.Keys.{register_on}
+use Rattle.frame.proofs.Parts.{part_before, part_within}
+use borrow.Rule.Slice.PartMut.{put_mid}
 use Rattle.frame.specs.Data.{steps, symbols, plain_bit, in_tail, scrambled_bit, data_bit, data_bits}
 
 pub plain_before : (octets : List ℕ) (n : ℕ) → n < 16 → false ≡ plain_bit octets n
@@ -70,6 +75,17 @@ full r len n d e f =
     let rest : x % d < d = mod-lt x s in
     let same : n * d ≡ d * (x / d) = ap (λ (z : ℕ). z * d) q ∙ mul_comm (x / d) d in
     record { enough = omega arith; few = omega arith }
+
+-- rounded up by one more than whole symbols that are not filled
+pub symbols_are : (r : Rate) (len n d : ℕ) → d ≡ n_dbps (shape r) → n ≡ div_ceil (22 + 8 * len) d → n ≡ symbols (shape r) len
+unfolding symbols
+symbols_are r len n d e f =
+    let x : ℕ = 22 + 8 * len in
+    let some : 0 < d = subst (λ (z : ℕ). 0 < z) (sym e) (sizes r).some_data in
+    let times = div_ceil_times x d some in
+    let low : n * d ≤ x + (d - 1) = omega (arith, ap (λ (z : ℕ). z * d) f, times.1) in
+    let high : x + (d - 1) < (n + 1) * d = omega (arith, ap (λ (z : ℕ). z * d) f, times.0, add-mul n 1 d) in
+    sym (div-eq_of_lt-le d low high) ∙ ap (λ (z : ℕ). (x + (z - 1)) / z) e
 
 pub symbols_few : (r : Rate) (len : ℕ) → len ≤ 4095 → symbols (shape r) len < 40000
 symbols_few r len h =
@@ -154,24 +170,24 @@ module _ (octets : List ℕ) (start seed : ℕ) where
   unfolding register_after
   fill_none out = (refl, λ k h. absurd (omega arith))
 
-  pub fill_more : (g register plain key masked register' : ℕ) (out out' : List Bool) →
+  pub fill_more : (g register plain key masked register' width : ℕ) (out four : List Bool) → 4 * g ≤ length out → length four ≡ 4 →
       (register ≡ register_after seed (4 * g)) × ((k : ℕ) → k < 4 * g → get_or out k false ≡ scrambled_bit octets (start + k) (key_of seed k)) →
       ((t : ℕ) → t < 4 → bit_at plain t ≡ plain_bit octets (start + 4 * g + t)) →
       ((t : ℕ) → t < 4 → bit_at key (3 - t) ≡ key_of register t) → Masked (length octets) (start + 4 * g) key masked →
-      ((k : ℕ) → k < 4 * g → get_or out' k false ≡ get_or out k false) →
-      ((t : ℕ) → t < 4 → get_or out' (4 * g + t) false ≡ differs (bit_at plain t) (bit_at masked (3 - t))) →
+      ((t : ℕ) → t < 4 → get_or four t false ≡ differs (bit_at plain t) (bit_at masked (3 - t))) →
       register' ≡ register_after register 4 →
-      (register' ≡ register_after seed (4 * (g + 1))) × ((k : ℕ) → k < 4 * (g + 1) → get_or out' k false ≡ scrambled_bit octets (start + k) (key_of seed k))
-  fill_more g register plain key masked register' out out' inv p q m b w r =
+      (register' ≡ register_after seed (4 * (g + 1))) × ((k : ℕ) → k < 4 * (g + 1) → get_or (put_mid (4 * g) width out four) k false ≡ scrambled_bit octets (start + k) (key_of seed k))
+  fill_more g register plain key masked register' width out four fits long inv p q m w r =
       let n = start + 4 * g in
+      let out' = put_mid (4 * g) width out four in
       let moved : register_after register 4 ≡ register_after seed (4 * (g + 1)) =
       ap (λ (x : ℕ). register_after x 4) inv.0 ∙ register_on seed (4 * g) 4 ∙ ap (register_after seed) (let z : 4 * g + 4 ≡ 4 * (g + 1) = omega arith in z) in
       let keyed : (t : ℕ) → key_of register t ≡ key_of seed (4 * g + t) = λ t. ap (λ (x : ℕ). key_bit (register_after x t)) inv.0 ∙ ap key_bit (register_on seed (4 * g) t) in
       let here : (t : ℕ) → t < 4 → get_or out' (4 * g + t) false ≡ scrambled_bit octets (n + t) (key_of seed (4 * g + t)) =
-      λ t l. w t l ∙ ap₂ differs (p t l) (m t l ∙ ap (λ (x : Bool). cond (in_tail (length octets) (n + t)) false x) (q t l ∙ keyed t)) ∙ masked_bit octets (n + t) (key_of seed (4 * g + t)) in (
+      λ t l. part_within (4 * g) width out four fits t false (omega arith) ∙ w t l ∙ ap₂ differs (p t l) (m t l ∙ ap (λ (x : Bool). cond (in_tail (length octets) (n + t)) false x) (q t l ∙ keyed t)) ∙ masked_bit octets (n + t) (key_of seed (4 * g + t)) in (
         r ∙ moved,
         λ k l. elim (cases_lt k (4 * g)) [
-          | inl h ↦ b k h ∙ inv.1 k h
+          | inl h ↦ part_before (4 * g) width out four fits k false h ∙ inv.1 k h
           | inr h ↦
               let at : 4 * g + (k - 4 * g) ≡ k = omega arith in
               let from : n + (k - 4 * g) ≡ start + k = omega arith in

@@ -1,4 +1,5 @@
 pub mod Tables
+pub mod Parts
 pub mod Bits
 pub mod HeaderBits
 pub mod Keys

@@ -1,6 +1,7 @@
 -- Bits and numbers.
-use Rattle.std.specs.Prelude.{ℕ, ◌/◌, ◌%◌, ◌^◌, Bool, true, false, not, List, [], ◌∷◌, ◌==◌}
+use Rattle.std.specs.Prelude.{ℕ, ◌/◌, ◌%◌, ◌^◌, Bool, true, false, not, List, ◌==◌}
 use Rattle.std.specs.Bool.{beq}
+use Rattle.std.specs.List.{fold}
 
 abbrev pub bit_of : Bool → ℕ
 bit_of true = 1
@@ -15,9 +16,5 @@ abbrev pub bit_at : ℕ → ℕ → Bool
 bit_at x n = x / 2 ^ n % 2 == 1
 
 -- whether the number of ones is odd
-abbrev pub odd_from : Bool → List Bool → Bool
-odd_from so_far [] = so_far
-odd_from so_far (b ∷ bits) = odd_from (differs so_far b) bits
-
 abbrev pub odd : List Bool → Bool
-odd bits = odd_from false bits
+odd bits = fold differs false bits

@@ -4,3 +4,4 @@ pub mod Header
 pub mod Scrambler
 pub mod Data
 pub mod Streaming
+pub mod Texts

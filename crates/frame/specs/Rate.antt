@@ -1,6 +1,8 @@
 -- The eight rates, and the shape of a symbol at each.
-use Rattle.std.specs.Prelude.{ℕ, ◌*◌, ◌/◌, Bool, true, false, cond, List, [], ◌∷◌, Some, None, Option, ◌==◌}
+use Rattle.std.specs.Prelude.{ℕ, ◌*◌, ◌/◌, Bool, true, false, cond, List, [], ◌∷◌, Some, None, Option, Ok, Err, Result, ◌==◌}
 use Rattle.frame.specs.declared.rate.Rate.{Rate}
+use Rattle.frame.specs.declared.rate.UnknownRate.{UnknownRate}
+use Rattle.frame.specs.declared.rate.Mode.{Mode}
 use Rattle.frame.specs.declared.rate.Rate.TheVariants as R
 use Rattle.frame.specs.declared.rate.Modulation.{Modulation}
 use Rattle.frame.specs.declared.rate.Modulation.TheVariants as M
@@ -38,6 +40,14 @@ numbered n (r ∷ rs) = cond (n == (row r).number) (Some r) (numbered n rs)
 abbrev pub rate_of : ℕ → Option Rate
 rate_of n = numbered n rates
 
+-- that rate, or that there is none
+abbrev pub or_unknown : ℕ → Option Rate → Result Rate UnknownRate
+or_unknown n None = Err (record { number = n })
+or_unknown n (Some r) = Ok r
+
+abbrev pub rate_or_unknown : ℕ → Result Rate UnknownRate
+rate_or_unknown n = or_unknown n (rate_of n)
+
 -- coded bits per carrier
 abbrev pub n_bpsc : Modulation → ℕ
 n_bpsc M.Bpsk = 1
@@ -50,6 +60,10 @@ abbrev pub fraction : CodeRate → ℕ × ℕ
 fraction C.Half = (1, 2)
 fraction C.TwoThirds = (2, 3)
 fraction C.ThreeQuarters = (3, 4)
+
+-- how a rate's symbols are coded and mapped
+abbrev pub mode_of : Rate → Mode
+mode_of r = record { modulation = (row r).modulation; code_rate = (row r).code_rate }
 
 -- what a symbol is made of; all that is said of coding is said over this, and not over the eight rates
 pub record Shape : Type 0 where
@@ -66,6 +80,9 @@ n_cbps s = s.carriers * n_bpsc s.modulation
 abbrev pub n_dbps : Shape → ℕ
 n_dbps s = n_cbps s * (fraction s.code_rate).0 / (fraction s.code_rate).1
 
--- 48 carriers, and an interleaver of 16 columns
+-- an 802.11a symbol has 48 carriers, and its interleaver 16 columns
+abbrev pub shaped : Mode → Shape
+shaped m = record { modulation = m.modulation; code_rate = m.code_rate; carriers = 48; columns = 16 }
+
 abbrev pub shape : Rate → Shape
-shape r = record { modulation = (row r).modulation; code_rate = (row r).code_rate; carriers = 48; columns = 16 }
+shape r = shaped (mode_of r)

@@ -1,29 +1,12 @@
 // The data bits of a frame: SERVICE, the bytes, the tail and the pads, scrambled. They are made four at a time, since a
 // byte, the tail and every symbol begin at a multiple of four.
 ghost use Rattle.std.specs.Prelude.{◌≡◌, ℕ, ◌+◌, ◌-◌, ◌*◌, ◌%◌, ◌^◌, ◌<◌, ◌≤◌, false, length as len, slice_index_or};
-ghost use Rattle.frame.specs.Rate.{shape};
 ghost use Rattle.frame.specs.Bits.{bit_at, differs};
-ghost use Rattle.frame.specs.Data.{symbols, pads, plain_bit};
+ghost use Rattle.frame.specs.Data.{plain_bit};
 ghost use Rattle.frame.specs.Scrambler.{register_after};
 ghost use Rattle.frame.specs.Streaming.{Masked, bits_under};
 
-use crate::rate::Rate;
 use crate::scrambler::next_four_key_bits;
-
-// N_SYM, the data symbols of a frame.
-pub fn symbol_count(rate: Rate, length: u16) -> usize
-    ensures { result ≡ symbols (shape rate) length }
-{
-    let n_dbps = rate.n_dbps();
-    (22 + 8 * length as usize + (n_dbps - 1)) / n_dbps
-}
-
-// The pad bits that fill the last symbol.
-pub fn pad_count(rate: Rate, length: u16) -> usize
-    ensures { result ≡ pads (shape rate) length }
-{
-    symbol_count(rate, length) * rate.n_dbps() - (22 + 8 * length as usize)
-}
 
 // The data bits `n` to `n + 3` before the scrambler, the first as the lowest bit.
 fn four_plain_bits(bytes: &[u8], n: usize) -> u8
@@ -51,16 +34,15 @@ fn four_masked(length: usize, n: usize, key: u8) -> u8
     if n % 8 == 0 { 0 } else { key % 4 }
 }
 
-// Writes four data bits at `at`.
-fn write_four(plain: u8, key: u8, at: usize, out: &mut [bool])
-    requires { at + 4 ≤ len out.old }
-    ensures before { (k : ℕ) → k < at → slice_index_or out.new k false ≡ slice_index_or out.old k false }
-    ensures here { (t : ℕ) → t < 4 → slice_index_or out.new (at + t) false ≡ differs (bit_at plain t) (bit_at key (3 - t)) }
+// Writes four data bits.
+fn write_four(plain: u8, key: u8, out: &mut [bool])
+    requires { len out.old ≡ 4 }
+    ensures { (t : ℕ) → t < 4 → slice_index_or out.new t false ≡ differs (bit_at plain t) (bit_at key (3 - t)) }
 {
-    for t in 0..4 {
+    for (t, bit) in out.iter_mut().enumerate() {
         let plain_bit = (plain >> t) % 2 == 1;
         let key_bit = (key >> (3 - t)) % 2 == 1;
-        out[at + t] = plain_bit != key_bit;
+        *bit = plain_bit != key_bit;
     }
 }
 
@@ -73,11 +55,16 @@ pub fn fill_data_bits(bytes: &[u8], register: u8, start: usize, out: &mut [bool]
     ensures moved { result ≡ register_after register (len out.old) }
 {
     let mut now_at = register;
+    // not by `chunks_exact_mut`: nothing is known of a slice's elements after their parts were lent by it
     for g in 0..out.len() / 4 {
         let n = start + 4 * g;
         let (key_bits, after) = next_four_key_bits(now_at);
         let masked = four_masked(bytes.len(), n, key_bits);
-        write_four(four_plain_bits(bytes, n), masked, 4 * g, out);
+        write_four(
+            four_plain_bits(bytes, n),
+            masked,
+            &mut out[4 * g..4 * g + 4],
+        );
         now_at = after;
     }
     now_at

@@ -1,45 +1,62 @@
-// The header: the 24 bits of the SIGNAL symbol.
-ghost use Rattle.std.specs.Prelude.{◌≡◌, ◌≤◌, map, length as len};
+// The header: what a frame says of its data, and the 24 bits of the SIGNAL symbol.
+ghost use Rattle.std.specs.Prelude.{◌≡◌, map};
 ghost use Rattle.std.specs.List.{range_with_len};
 ghost use Rattle.frame.specs.Bits.{bit_at, odd};
-ghost use Rattle.frame.specs.Header.{header as header_of};
+ghost use Rattle.frame.specs.Rate.{shape};
+ghost use Rattle.frame.specs.Header.{header};
+ghost use Rattle.frame.specs.Data.{symbols, pads};
 
 use crate::rate::Rate;
 
-// Writes a number's lowest bits, lowest first, as many as there is room for.
-fn write_bits(number: u16, out: &mut [bool])
-    requires { len out.old ≤ 16 }
-    ensures { out.new ≡ map (bit_at number) (range_with_len 0 (len out.old)) }
+// What a frame's header says of its data: the rate, and how many bytes there are.
+#[derive(Clone, Copy, Debug, PartialEq, Eq)]
+pub struct Header {
+    pub rate: Rate,
+    pub length: u16,
+}
+
+// A number's lowest twelve bits, lowest first.
+fn twelve_bits(number: u16) -> [bool; 12]
+    ensures { result ≡ map (bit_at number) (range_with_len 0 12) }
 {
-    for n in 0..out.len() {
-        out[n] = (number >> n) % 2 == 1;
+    let mut bits = [false; 12];
+    for (n, bit) in bits.iter_mut().enumerate() {
+        *bit = (number >> n) % 2 == 1;
     }
+    bits
 }
 
 // Whether the number of ones is odd.
 fn odd_ones(bits: &[bool]) -> bool
     ensures { result ≡ odd bits.now }
 {
-    let mut so_far = false;
-    for bit in bits {
-        so_far = so_far != *bit;
-    }
-    so_far
+    bits.iter().fold(false, |so_far, bit| so_far != *bit)
 }
 
-// The header's bits, before coding; of `length` the lowest twelve bits are sent.
-pub fn header(rate: Rate, length: u16) -> [bool; 24]
-    ensures { result ≡ header_of rate length }
-{
-    let (r1, r2, r3, r4) = rate.bits();
-    let mut length_bits = [false; 12];
-    write_bits(length, &mut length_bits);
-    let mut bits = [false; 24];
-    bits[0] = r1;
-    bits[1] = r2;
-    bits[2] = r3;
-    bits[3] = r4;
-    bits[5..17].copy_from_slice(&length_bits);
-    bits[17] = odd_ones(&bits[0..17]);
-    bits
+impl Header {
+    // The header's bits, before coding; of LENGTH the lowest twelve bits are sent.
+    pub fn bits(self) -> [bool; 24]
+        ensures { result ≡ header self.rate self.length }
+    {
+        let mut bits = [false; 24];
+        bits[0..4].copy_from_slice(&self.rate.bits());
+        bits[5..17].copy_from_slice(&twelve_bits(self.length));
+        bits[17] = odd_ones(&bits[0..17]);
+        bits
+    }
+
+    // N_SYM, the data symbols of the frame.
+    #[tactic(auto, using(crate::proofs::DataBits::symbols_are))]
+    pub fn symbol_count(self) -> usize
+        ensures { result ≡ symbols (shape self.rate) self.length }
+    {
+        (22 + 8 * self.length as usize).div_ceil(self.rate.n_dbps())
+    }
+
+    // The pad bits that fill the last symbol.
+    pub fn pad_count(self) -> usize
+        ensures { result ≡ pads (shape self.rate) self.length }
+    {
+        self.symbol_count() * self.rate.n_dbps() - (22 + 8 * self.length as usize)
+    }
 }

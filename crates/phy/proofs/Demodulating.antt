@@ -10,7 +10,7 @@ use Rattle.frame.specs.Rate.{Shape, shape, n_bpsc, n_cbps, n_dbps}
 use Rattle.coding.specs.Puncturing.{sent_of, sent_count, punctured}
 use Rattle.coding.specs.Depuncturing.{restored}
 use Rattle.coding.specs.Interleaver.{Grid, place, interleaved, deinterleaved, turn_size}
-use Rattle.coding.proofs.Depuncturing.{punctured_is, a_sent, b_sent}
+use Rattle.coding.proofs.Depuncturing.{a_sent, b_sent}
 use Rattle.coding.proofs.Interleaving.{undone}
 use Rattle.coding.proofs.Deinterleaving.{interleaved_at, deinterleaved_at}
 use Rattle.coding.proofs.Punctured.{room, length_sent}
@@ -28,7 +28,8 @@ use Rattle.phy.specs.declared.fault.ListenFault.{ListenFault}
 use Rattle.phy.specs.Fault.{of_symbol, listening_fault}
 use Rattle.phy.specs.Symbols.{symbol_of}
 use Rattle.phy.specs.Demodulation.{demodulated, carrier_of, OutputTold, PairTold, Demodulates}
-use Rattle.phy.proofs.Shapes.{Regular, regular, groups, grid}
+use Rattle.coding.proofs.Interleaving.{groups, symbol_grid}
+use Rattle.phy.proofs.Shapes.{Regular, regular}
 
 -- the soft bits of a symbol in the coder's order
 abbrev soft : Shape → List Carrier → List SoftBit
@@ -73,10 +74,10 @@ module _ (s : Shape) (reg : Regular s) (t : ℕ) (g : Grid s.columns (turn_size 
       let here : i < length pairs = omega arith in
       record {
         a = told_output s cs (sent_of c i).0 k (get_or pairs i (false, false)).0 (get_or (soft s cs) k Absent) (λ e.
-            subst (λ (b : Bool). Tells b (get_or cs (carrier_of s k) Struck) (get_or (soft s cs) k Absent)) (ap (λ (z : List Bool). get_or z k false) (punctured_is c pairs) ∙ a_sent c pairs i false here e)
+            subst (λ (b : Bool). Tells b (get_or cs (carrier_of s k) Struck) (get_or (soft s cs) k Absent)) (a_sent c pairs i false here e)
             (tells k (omega (arith, fits, bit_true (sent_of c i).0 e))));
         b = told_output s cs (sent_of c i).1 l (get_or pairs i (false, false)).1 (get_or (soft s cs) l Absent) (λ e.
-            subst (λ (b : Bool). Tells b (get_or cs (carrier_of s l) Struck) (get_or (soft s cs) l Absent)) (ap (λ (z : List Bool). get_or z l false) (punctured_is c pairs) ∙ b_sent c pairs i false here e)
+            subst (λ (b : Bool). Tells b (get_or cs (carrier_of s l) Struck) (get_or (soft s cs) l Absent)) (b_sent c pairs i false here e)
             (tells l (omega (arith, fits, bit_true (sent_of c i).1 e))));
       }
 
@@ -105,26 +106,27 @@ legal_pair s cs i = (
 
 -- ---- the call
 
-module _ (s : Shape) (cs : List Carrier) (out out' : List (SoftBit × SoftBit)) where
-  pair_of : (i : ℕ) → i < n_dbps s → out' ≡ demodulated s cs ++ drop (n_dbps s) out → get_or out' i (Absent, Absent) ≡ restored Absent s.code_rate (soft s cs) i
+module _ (s : Shape) (cs : List Carrier) (i : ℕ) (h : i < n_dbps s) where
+  demodulated_at : get_or (demodulated s cs) i (Absent, Absent) ≡ restored Absent s.code_rate (soft s cs) i
   unfolding demodulated
-  pair_of i h e =
-      let F = restored Absent s.code_rate (soft s cs) in
-      ap (λ (z : List (SoftBit × SoftBit)). get_or z i (Absent, Absent)) e
-      ∙ get_or_append_left (map F (range_with_len 0 (n_dbps s))) (drop (n_dbps s) out) (Absent, Absent) i (omega (arith, length-map-range_with_len F 0 (n_dbps s)))
-      ∙ get_or-map-range_with_len F 0 (n_dbps s) i i (Absent, Absent) h (omega arith)
+  demodulated_at = get_or-map-range_with_len (restored Absent s.code_rate (soft s cs)) 0 (n_dbps s) i i (Absent, Absent) h (omega arith)
 
-demodulated_at : (s : Shape) (cs : List Carrier) (i : ℕ) → i < n_dbps s → get_or (demodulated s cs) i (Absent, Absent) ≡ restored Absent s.code_rate (soft s cs) i
-unfolding demodulated
-demodulated_at s cs i h = get_or-map-range_with_len (restored Absent s.code_rate (soft s cs)) 0 (n_dbps s) i i (Absent, Absent) h (omega arith)
+  legal_demodulated : Legal (get_or (demodulated s cs) i (Absent, Absent)).0 × Legal (get_or (demodulated s cs) i (Absent, Absent)).1
+  legal_demodulated = rw demodulated_at (legal_pair s cs i)
+
+  -- the places before the others hold the symbol's pairs
+  in_front : (out out' : List (SoftBit × SoftBit)) → out' ≡ demodulated s cs ++ drop (n_dbps s) out → get_or (demodulated s cs) i (Absent, Absent) ≡ get_or out' i (Absent, Absent)
+  unfolding demodulated
+  in_front out out' e =
+      sym (ap (λ (z : List (SoftBit × SoftBit)). get_or z i (Absent, Absent)) e
+      ∙ get_or_append_left (demodulated s cs) (drop (n_dbps s) out) (Absent, Absent) i (omega (arith, length-map-range_with_len (restored Absent s.code_rate (soft s cs)) 0 (n_dbps s))))
 
 -- the pairs of a symbol as sent, whatever they are
 pub pairs_told : (r : Rate) (pairs : List (Bool × Bool)) (cs : List Carrier) → length pairs ≡ n_dbps (shape r) → Received (symbol_of (shape r) (punctured (shape r).code_rate pairs)) cs →
     (i : ℕ) → i < n_dbps (shape r) → PairTold (shape r) cs i (get_or pairs i (false, false)) (get_or (demodulated (shape r) cs) i (Absent, Absent))
 pairs_told r pairs cs long got i h =
     let s = shape r in
-    subst (λ (p : SoftBit × SoftBit). PairTold s cs i (get_or pairs i (false, false)) p) (sym (demodulated_at s cs i h))
-    (told_pair s (regular r) (groups s.modulation) (grid s.modulation (n_cbps s) refl) pairs cs long got i h)
+    rw (demodulated_at s cs i h) (told_pair s (regular r) (groups s.modulation) (symbol_grid s.modulation (n_cbps s) refl) pairs cs long got i h)
 
 pub received_is_heard : (r : Rate) (bits : List Bool) (cs : List Carrier) → Received (symbol_of (shape r) bits) cs → listening_fault cs ≡ None
 received_is_heard r bits cs got =
@@ -137,11 +139,10 @@ accepts r cs out out' fine e =
     let s = shape r in
     record {
       answer = (fine, e);
-      legal = λ ok i h. subst (λ (p : SoftBit × SoftBit). Legal p.0 × Legal p.1) (sym (pair_of s cs out out' i h e)) (legal_pair s cs i);
+      legal = λ ok i h. subst (λ (p : SoftBit × SoftBit). Legal p.0 × Legal p.1) (in_front s cs i h out out' e) (legal_demodulated s cs i h);
       told = λ pairs long got. (
         refl,
-        λ i h. subst (λ (p : SoftBit × SoftBit). PairTold s cs i (get_or pairs i (false, false)) p) (sym (pair_of s cs out out' i h e))
-            (told_pair s (regular r) (groups s.modulation) (grid s.modulation (n_cbps s) refl) pairs cs long got i h),
+        λ i h. subst (λ (p : SoftBit × SoftBit). PairTold s cs i (get_or pairs i (false, false)) p) (in_front s cs i h out out' e) (pairs_told r pairs cs long got i h),
       );
     }
 
@@ -149,6 +150,6 @@ pub refuses : (r : Rate) (cs : List Carrier) (fault : ListenFault) (out : List (
 refuses r cs fault out e =
     record {
       answer = (e, refl);
-      legal = λ ok i h. absurd (let z : ◌≡◌ {A = ℕ} 0 1 = cc in omega arith);
-      told = λ pairs long got. absurd (let never = received_is_heard r (punctured (shape r).code_rate pairs) cs got in let z : ◌≡◌ {A = ℕ} 0 1 = cc in omega arith);
+      legal = λ ok i h. absurd cc;
+      told = λ pairs long got. absurd (let never = received_is_heard r (punctured (shape r).code_rate pairs) cs got in cc);
     }

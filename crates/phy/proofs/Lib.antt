@@ -1,8 +1,6 @@
 pub mod Shapes
 pub mod Slices
-pub mod Making
-pub mod DataSymbols
-pub mod Stepping
+pub mod InStep
 pub mod Tells
 pub mod Demodulating
 pub mod Hearing

@@ -1,13 +1,12 @@
--- Every rate's symbol holds whole periods of its puncturing pattern, fills its carriers, and lies on a grid.
-use Rattle.std.proofs.Common.{◌≡◌, ℕ, ◌*◌, ◌%◌, length, sym, refl, ap, ◌∙◌, ap₂, arith}
+-- Every rate's symbol holds whole periods of its puncturing pattern and fills its carriers.
+use Rattle.std.proofs.Common.{◌≡◌, ℕ, ◌*◌, ◌%◌, length, sym, refl, ap, ◌∙◌, ap₂}
 use Rattle.frame.specs.declared.rate.Rate.{Rate}
 use Rattle.frame.specs.declared.rate.Rate.TheVariants as R
-use Rattle.frame.specs.declared.rate.CodeRate.{CodeRate}
-use Rattle.frame.specs.declared.rate.Modulation.{Modulation}
-use Rattle.frame.specs.declared.rate.Modulation.TheVariants as M
-use Rattle.frame.specs.Rate.{Shape, shape, n_bpsc, n_cbps, n_dbps}
+use Rattle.frame.specs.declared.rate.Mode.{Mode}
+use Rattle.frame.specs.Rate.{Shape, shape, mode_of, n_bpsc, n_cbps, n_dbps}
+use Rattle.frame.specs.Header.{header}
+use Rattle.frame.proofs.HeaderBits.{header_parts}
 use Rattle.coding.specs.Puncturing.{pattern, sent_of, sent_count}
-use Rattle.coding.specs.Interleaver.{Grid, turn_size}
 use Rattle.phy.specs.Writing.{Fills}
 
 pub record Regular (s : Shape) : Type 0 where
@@ -26,23 +25,13 @@ regular R.R48 = record { whole = refl; fills = refl }
 regular R.R54 = record { whole = refl; fills = refl }
 
 -- what `write_symbol` and demodulating ask of a rate's data bits
-pub fills : (r : Rate) (c : CodeRate) (m : Modulation) (d : ℕ) → c ≡ (shape r).code_rate → m ≡ (shape r).modulation → d ≡ n_dbps (shape r) → Fills m c d
-fills r c m d e f g =
+pub fills : (r : Rate) (m : Mode) (d : ℕ) → m ≡ mode_of r → d ≡ n_dbps (shape r) → Fills m d
+fills r m d e f =
     record {
-      whole = ap₂ (λ (x : CodeRate) (y : ℕ). y % length (pattern x)) e g ∙ (regular r).whole;
-      filled = ap₂ sent_count e g ∙ (regular r).fills ∙ ap (λ (x : Modulation). 48 * n_bpsc x) (sym f);
+      whole = ap₂ (λ (x : Mode) (y : ℕ). y % length (pattern x.code_rate)) e f ∙ (regular r).whole;
+      filled = ap₂ (λ (x : Mode) (y : ℕ). sent_count x.code_rate y) e f ∙ (regular r).fills ∙ ap (λ (x : Mode). 48 * n_bpsc x.modulation) (sym e);
     }
 
--- the symbol's places as a grid: how many groups a column has
-unfoldable pub groups : Modulation → ℕ
-groups M.Bpsk = 3
-groups M.Qpsk = 6
-groups M.Qam16 = 6
-groups M.Qam64 = 6
-
-pub grid : (m : Modulation) (n : ℕ) → n ≡ 48 * n_bpsc m → Grid 16 (turn_size m) (groups m) n
-unfolding groups
-grid M.Bpsk n e = record { some_columns = omega arith; some_size = omega arith; some_groups = omega arith; whole = e }
-grid M.Qpsk n e = record { some_columns = omega arith; some_size = omega arith; some_groups = omega arith; whole = e }
-grid M.Qam16 n e = record { some_columns = omega arith; some_size = omega arith; some_groups = omega arith; whole = e }
-grid M.Qam64 n e = record { some_columns = omega arith; some_size = omega arith; some_groups = omega arith; whole = e }
+-- the header's bits fill a symbol of rate 6
+pub header_fills : (r : Rate) (len : ℕ) (m : Mode) → m ≡ mode_of R.R6 → Fills m (length (header r len))
+header_fills r len m e = fills R.R6 m (length (header r len)) e (header_parts r len).long

@@ -22,7 +22,8 @@ use Rattle.coding.proofs.Determined.{punctured_determines, sent_some}
 use Rattle.carriers.proofs.Determined.{mapped_determines}
 use Rattle.phy.specs.Symbols.{symbol_of, header_symbol, sent_bits, data_symbol}
 use Rattle.phy.specs.Telling.{Sendable, SymbolsTellTheFrame}
-use Rattle.phy.proofs.Shapes.{groups, grid, regular}
+use Rattle.coding.proofs.Interleaving.{groups, symbol_grid}
+use Rattle.phy.proofs.Shapes.{regular}
 
 -- ---- one symbol
 
@@ -32,7 +33,7 @@ symbol_determines r xs ys l k e =
     let s = turn_size m in
     let placed : List Bool → List Bool = λ zs. interleaved false 16 s zs in
     let long : (zs : List Bool) → length (placed zs) ≡ length zs = λ zs. length-map-range_with_len (λ j. get_or zs (source 16 (length zs) s j) false) 0 (length zs) in
-    interleaved_determines false 16 s (groups m) xs ys (grid m (length xs) l) (l ∙ sym k)
+    interleaved_determines false 16 s (groups m) xs ys (symbol_grid m (length xs) l) (l ∙ sym k)
     (mapped_determines m 48 (placed xs) (placed ys) (long xs ∙ l) (long ys ∙ k ∙ sym l ∙ sym (long xs)) e)
 
 header_symbol_determines : (r r' : Rate) (len len' : ℕ) → len < 4096 → len' < 4096 → header_symbol r len ≡ header_symbol r' len' → (r ≡ r') × (len ≡ len')

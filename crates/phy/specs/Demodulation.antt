@@ -1,9 +1,8 @@
 -- What the carriers of a symbol say of its coded bits: for each data bit a pair, of A and of B, in the coder's order.
 use Rattle.std.specs.Prelude.{◌≡◌, ℕ, ◌+◌, ◌/◌, ◌<◌, Bool, true, false, List, ◌++◌, length, drop, Some, None, Ok, Err, Result, slice_index_or}
-use Rattle.frame.specs.declared.rate.Modulation.{Modulation}
-use Rattle.frame.specs.declared.rate.CodeRate.{CodeRate}
+use Rattle.frame.specs.declared.rate.Mode.{Mode}
 use Rattle.frame.specs.Bits.{bit_of}
-use Rattle.frame.specs.Rate.{Shape, n_bpsc, n_cbps, n_dbps}
+use Rattle.frame.specs.Rate.{Shape, shaped, n_bpsc, n_cbps, n_dbps}
 use Rattle.coding.specs.Puncturing.{sent_of, sent_count, punctured}
 use Rattle.coding.specs.Depuncturing.{depunctured}
 use Rattle.coding.specs.Interleaver.{place, deinterleaved, turn_size}
@@ -18,7 +17,7 @@ use Rattle.carriers.specs.Received.{Received, Tells}
 use Rattle.phy.specs.declared.fault.ListenFault.{ListenFault}
 use Rattle.phy.specs.Fault.{listening_fault}
 use Rattle.phy.specs.Symbols.{symbol_of}
-use Rattle.phy.specs.Writing.{shaped, Fills}
+use Rattle.phy.specs.Writing.{Fills}
 
 -- demapped, deinterleaved and depunctured: every bit of a struck carrier is absent, and so is every stolen bit
 unfoldable pub demodulated : Shape → List Carrier → List (SoftBit × SoftBit)
@@ -43,12 +42,11 @@ pub record PairTold (s : Shape) (carriers : List Carrier) (i : ℕ) (pair : Bool
 
 -- ---- the call
 
--- what the functions below the call ask: 48 carriers, all of them numbers, and room for just the n pairs of the symbol
-pub record Ready (m : Modulation) (c : CodeRate) (carriers : List Carrier) (n : ℕ) : Type 0 where
-  pub many : length carriers ≡ 48
+-- what the functions below the call ask of the 48 carriers: all of them numbers, and room for just the n pairs of the symbol
+pub record Ready (m : Mode) (carriers : List Carrier) (n : ℕ) : Type 0 where
   pub numbers : carrier_fault carriers ≡ None
-  pub fills : Fills m c n
-  pub just : n ≡ n_dbps (shaped m c)
+  pub fills : Fills m n
+  pub just : n ≡ n_dbps (shaped m)
 
 -- refused as the faults say, and then nothing was written; or the first N_DBPS pairs are the symbol's, and the others what they were
 abbrev pub Answered : Shape → List Carrier → Result (Unit {0}) ListenFault → List (SoftBit × SoftBit) → List (SoftBit × SoftBit) → Type 0

@@ -1,6 +1,9 @@
 pub mod Fault
+pub mod Texts
 pub mod Symbols
 pub mod Writing
+pub mod OnItsWay
+pub mod InStep
 pub mod Sends
 pub mod Telling
 pub mod Demodulation

@@ -1,7 +1,6 @@
 // One symbol back: carriers through the demapper, the deinterleaver and the depuncturing.
 ghost use Rattle.std.specs.Prelude.{◌≡◌, ◌*◌, length};
-ghost use Rattle.frame.specs.Rate.{n_bpsc, shape};
-ghost use Rattle.phy.specs.Writing.{shaped};
+ghost use Rattle.frame.specs.Rate.{n_bpsc, shaped, shape};
 ghost use Rattle.phy.specs.Demodulation.{demodulated, Ready, Demodulates};
 
 use crate::fault::ListenFault;
@@ -11,65 +10,36 @@ use carriers::demapper::demap_symbol;
 use carriers::soft::SoftBit;
 use coding::depuncturer::depuncture;
 use coding::interleaver::deinterleave_symbol;
-use frame::rate::{CodeRate, Modulation, Rate};
-
-// Demodulates over `placed` and `coded`, which are as long as the symbol's coded bits.
-fn demodulate_over(
-    modulation: Modulation,
-    code_rate: CodeRate,
-    carriers: &[Carrier],
-    placed: &mut [SoftBit],
-    coded: &mut [SoftBit],
-    pairs: &mut [(SoftBit, SoftBit)],
-)
-    requires ready { Ready modulation code_rate carriers.now (length pairs.old) }
-    requires placed_len { length placed.old ≡ 48 * n_bpsc modulation }
-    requires coded_len { length coded.old ≡ 48 * n_bpsc modulation }
-    ensures { pairs.new ≡ demodulated (shaped modulation code_rate) carriers.now }
-{
-    demap_symbol(modulation, carriers, placed);
-    deinterleave_symbol(modulation, placed, coded);
-    depuncture(coded, code_rate, SoftBit::Absent, pairs)
-}
+use frame::rate::{Mode, Modulation, Rate};
 
 // Demodulates a symbol of N coded bits. The memory is just as long as they are: what is not there need not be cleared.
 fn demodulate_coded<const N: usize>(
-    modulation: Modulation,
-    code_rate: CodeRate,
-    carriers: &[Carrier],
+    mode: Mode,
+    carriers: &[Carrier; 48],
     pairs: &mut [(SoftBit, SoftBit)],
 )
-    requires n_value { N ≡ 48 * n_bpsc modulation }
-    requires ready { Ready modulation code_rate carriers.now (length pairs.old) }
-    ensures { pairs.new ≡ demodulated (shaped modulation code_rate) carriers.now }
+    requires n_value { N ≡ 48 * n_bpsc mode.modulation }
+    requires ready { Ready mode carriers.now (length pairs.old) }
+    ensures { pairs.new ≡ demodulated (shaped mode) carriers.now }
 {
     let mut placed = [SoftBit::Absent; N];
     let mut coded = [SoftBit::Absent; N];
-    demodulate_over(
-        modulation,
-        code_rate,
-        carriers,
-        &mut placed,
-        &mut coded,
-        pairs,
-    )
+    demap_symbol(mode.modulation, carriers, &mut placed);
+    deinterleave_symbol(mode.modulation, &placed, &mut coded);
+    depuncture(&coded, mode.code_rate, SoftBit::Absent, pairs)
 }
 
-// Writes what 48 carriers say of each data bit's pair of coded bits.
-fn demodulate_symbol(
-    modulation: Modulation,
-    code_rate: CodeRate,
-    carriers: &[Carrier],
-    pairs: &mut [(SoftBit, SoftBit)],
-)
-    requires { Ready modulation code_rate carriers.now (length pairs.old) }
-    ensures { pairs.new ≡ demodulated (shaped modulation code_rate) carriers.now }
+// Writes what 48 carriers say of each data bit's pair of coded bits. Each modulation names the length of its memory, since none can
+// be computed from it in a type.
+fn demodulate_symbol(mode: Mode, carriers: &[Carrier; 48], pairs: &mut [(SoftBit, SoftBit)])
+    requires { Ready mode carriers.now (length pairs.old) }
+    ensures { pairs.new ≡ demodulated (shaped mode) carriers.now }
 {
-    match modulation {
-        Modulation::Bpsk => demodulate_coded::<48>(modulation, code_rate, carriers, pairs),
-        Modulation::Qpsk => demodulate_coded::<96>(modulation, code_rate, carriers, pairs),
-        Modulation::Qam16 => demodulate_coded::<192>(modulation, code_rate, carriers, pairs),
-        Modulation::Qam64 => demodulate_coded::<288>(modulation, code_rate, carriers, pairs),
+    match mode.modulation {
+        Modulation::Bpsk => demodulate_coded::<48>(mode, carriers, pairs),
+        Modulation::Qpsk => demodulate_coded::<96>(mode, carriers, pairs),
+        Modulation::Qam16 => demodulate_coded::<192>(mode, carriers, pairs),
+        Modulation::Qam64 => demodulate_coded::<288>(mode, carriers, pairs),
     }
 }
 
@@ -82,13 +52,7 @@ pub fn demodulate(
 ) -> Result<(), ListenFault>
     ensures { Demodulates (shape rate) carriers.now result out.old out.new }
 {
-    check_symbol(carriers)?;
-    let n_dbps = rate.n_dbps();
-    demodulate_symbol(
-        rate.modulation(),
-        rate.code_rate(),
-        carriers,
-        &mut out[0..n_dbps],
-    );
+    let symbol = check_symbol(carriers)?;
+    demodulate_symbol(rate.mode(), symbol, &mut out[0..rate.n_dbps()]);
     Ok(())
 }

@@ -1,12 +1,17 @@
 // Why a call was refused. The numbers are part of the interface.
-ghost use Rattle.std.specs.Prelude.{◌≡◌};
+ghost use Rattle.std.specs.Prelude.{◌≡◌, Some};
+ghost use Rattle.phy.specs.declared.fault.SendFault.TheVariants as SE;
 ghost use Rattle.phy.specs.declared.fault.ListenFault.TheVariants as LF;
 ghost use Rattle.phy.specs.Fault.{send_fault_number, listen_fault_number, carrier_named};
+ghost use Rattle.phy.specs.Texts.{send_fault_text, listen_fault_text};
 
 use carriers::fault::{Axis, CarrierFault, SymbolFault};
+use frame::rate::UnknownRate;
+use std::error::Error;
+use std::fmt;
 
 // A refusal by the sender, with what was given in the place of a good value.
-#[derive(Clone, Copy, Debug)]
+#[derive(Clone, Copy, Debug, PartialEq, Eq)]
 pub enum SendFault {
     // not one of the eight rates
     Rate(u32),
@@ -18,6 +23,14 @@ pub enum SendFault {
     Over,
     // the slice for the carriers of a symbol is not 48 long
     Carriers(usize),
+}
+
+impl From<UnknownRate> for SendFault {
+    ghost from_gives = { λ e r. r ≡ SE.Rate e.number };
+
+    fn from(unknown: UnknownRate) -> SendFault {
+        SendFault::Rate(unknown.number)
+    }
 }
 
 impl SendFault {
@@ -34,8 +47,27 @@ impl SendFault {
     }
 }
 
+impl fmt::Display for SendFault {
+    ghost output = { λ fault. Some (send_fault_text fault) };
+
+    fn fmt<W: fmt::Write>(&self, f: &mut fmt::Formatter<W>) -> fmt::Result {
+        match self {
+            SendFault::Rate(number) => {
+                let unknown = UnknownRate { number: *number };
+                write!(f, "{unknown}")
+            }
+            SendFault::Seed(seed) => write!(f, "the seed {seed} is outside 1 to 127"),
+            SendFault::Length(count) => write!(f, "{count} bytes: a frame holds 1 to 4095 bytes"),
+            SendFault::Over => write!(f, "the sending is over"),
+            SendFault::Carriers(count) => write!(f, "{count} carriers: a symbol has 48"),
+        }
+    }
+}
+
+impl Error for SendFault {}
+
 // A refusal by the receiver. A fault of a symbol's carriers, or of one of them, stands inside as the layer below raised it.
-#[derive(Clone, Copy, Debug)]
+#[derive(Clone, Copy, Debug, PartialEq, Eq)]
 pub enum ListenFault {
     Symbol(SymbolFault),
 }
@@ -69,3 +101,15 @@ impl ListenFault {
         }
     }
 }
+
+impl fmt::Display for ListenFault {
+    ghost output = { λ fault. Some (listen_fault_text fault) };
+
+    fn fmt<W: fmt::Write>(&self, f: &mut fmt::Formatter<W>) -> fmt::Result {
+        match self {
+            ListenFault::Symbol(fault) => write!(f, "{fault}"),
+        }
+    }
+}
+
+impl Error for ListenFault {}

@@ -29,7 +29,7 @@ fn show_refusal(rt: &HostRuntime, fault: ListenFault, carriers: usize) -> anyhow
 
 fn show_symbol(rt: &HostRuntime, number: u32, generator: &mut Generator) -> anyhow::Result<()> {
     let mbps = RATES[number as usize % 8];
-    let Some(rate) = Rate::from_number(mbps) else {
+    let Ok(rate) = Rate::try_from(mbps) else {
         return Err(anyhow!("a rate is unknown"));
     };
     print!(rt; "symbol={number} rate={mbps} ")?;

@@ -1,6 +1,6 @@
 // The edges of sending: the shortest and the longest frame at every rate, and every refusal in its order.
 use carriers::carrier::Carrier;
-use frame::data::{pad_count, symbol_count};
+use frame::header::Header;
 use frame::rate::Rate;
 use phy::sending::Sending;
 use std::test::Fail;
@@ -128,10 +128,52 @@ fn refused_at_the_end(rt: HostRuntime) -> Result<(), Fail> {
 
 #[test]
 fn symbols_and_pads(rt: HostRuntime) {
-    assert_eq!(rt; symbol_count(Rate::R36, 100), 6);
-    assert_eq!(rt; pad_count(Rate::R36, 100), 42);
-    assert_eq!(rt; symbol_count(Rate::R6, 1), 2);
-    assert_eq!(rt; pad_count(Rate::R6, 1), 18);
-    assert_eq!(rt; symbol_count(Rate::R54, 4095), 152);
-    assert_eq!(rt; pad_count(Rate::R54, 4095), 50);
+    assert_eq!(rt;
+        Header {
+            rate: Rate::R36,
+            length: 100
+        }
+        .symbol_count(),
+        6
+    );
+    assert_eq!(rt;
+        Header {
+            rate: Rate::R36,
+            length: 100
+        }
+        .pad_count(),
+        42
+    );
+    assert_eq!(rt;
+        Header {
+            rate: Rate::R6,
+            length: 1
+        }
+        .symbol_count(),
+        2
+    );
+    assert_eq!(rt;
+        Header {
+            rate: Rate::R6,
+            length: 1
+        }
+        .pad_count(),
+        18
+    );
+    assert_eq!(rt;
+        Header {
+            rate: Rate::R54,
+            length: 4095
+        }
+        .symbol_count(),
+        152
+    );
+    assert_eq!(rt;
+        Header {
+            rate: Rate::R54,
+            length: 4095
+        }
+        .pad_count(),
+        50
+    );
 }

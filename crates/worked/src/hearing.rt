@@ -2,9 +2,9 @@
 use carriers::carrier::{Carrier, Point};
 use carriers::fault::Axis;
 use carriers::soft::SoftBit;
-use coding::coder::{next_state, outputs};
-use frame::data::{fill_data_bits, symbol_count};
-use frame::header::header;
+use coding::coder::State;
+use frame::data::fill_data_bits;
+use frame::header::Header;
 use frame::rate::{CodeRate, Rate};
 use phy::demodulator::demodulate;
 use phy::sending::Sending;
@@ -202,16 +202,16 @@ fn follow(
     code_rate: CodeRate,
     bits: &[bool],
     pairs: &[(SoftBit, SoftBit)],
-    state: u8,
-) -> Option<u8> {
+    state: State,
+) -> Option<State> {
     let mut state = state;
     for (n, (bit, (heard_a, heard_b))) in bits.iter().zip(pairs.iter()).enumerate() {
-        let (a, b) = outputs(state % 64, *bit);
+        let (a, b) = state.outputs(*bit);
         let (a_sent, b_sent) = sent_of(code_rate, n);
         if !may_be(a_sent, a, *heard_a) || !may_be(b_sent, b, *heard_b) {
             return None;
         }
-        state = next_state(state % 64, *bit);
+        state = state.next(*bit);
     }
     Some(state)
 }
@@ -233,7 +233,7 @@ fn strike(carriers: &mut [Carrier; 48], every: usize) -> usize {
 fn follow_sending(rate: Rate, sending: &mut Sending, bits: &[bool], every: usize) -> Option<usize> {
     let n_dbps = rate.n_dbps();
     let n_bpsc = rate.modulation().n_bpsc();
-    let mut state = 0u8;
+    let mut state = State::zeros();
     for k in 0..100usize {
         let mut carriers = [Carrier::Struck; 48];
         let mut pairs = lent_pairs();
@@ -269,7 +269,8 @@ fn symbols_as_sent(rt: HostRuntime) -> Result<(), Fail> {
     let mut bits = [false; 960];
     let _ = fill_data_bits(bytes, 93, 0, &mut bits);
     for number in RATES {
-        let rate = Rate::from_number(number).ok_or("a rate is unknown")?;
+        let rate = Rate::try_from(number)?;
+        let header = Header { rate, length: 98 };
         for every in [0usize, 3] {
             let mut carriers = [Carrier::Struck; 48];
             let mut pairs = lent_pairs();
@@ -278,11 +279,16 @@ fn symbols_as_sent(rt: HostRuntime) -> Result<(), Fail> {
             let _ = strike(&mut carriers, every);
             demodulate(Rate::R6, &carriers, &mut pairs)?;
             assert_eq!(rt;
-                follow(CodeRate::Half, &header(rate, 98), &pairs[0..24], 0),
-                Some(0)
+                follow(
+                    CodeRate::Half,
+                    &header.bits(),
+                    &pairs[0..24],
+                    State::zeros()
+                ),
+                Some(State::zeros())
             );
             let followed = follow_sending(rate, &mut sending, &bits, every);
-            assert_eq!(rt; followed, Some(symbol_count(rate, 98)));
+            assert_eq!(rt; followed, Some(header.symbol_count()));
         }
     }
     Ok(())

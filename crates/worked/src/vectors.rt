@@ -1,12 +1,18 @@
 // The example of Annex G: what is sent against what the standard prints, as far as that was remembered.
 use crate::annex_g::{MESSAGE, RATE, SEED};
 use carriers::carrier::{Carrier, Point};
+use coding::coder::State;
 use coding::encoder::encode;
 use frame::data::fill_data_bits;
-use frame::header::header;
+use frame::header::Header;
 use frame::rate::{CodeRate, Rate};
 use phy::sending::Sending;
 use std::test::Fail;
+
+const HEADER: Header = Header {
+    rate: Rate::R36,
+    length: 100,
+};
 
 const EMPTY: [Carrier; 48] = [Carrier::Struck; 48];
 
@@ -49,7 +55,7 @@ fn bits_of_qam16(point: Point) -> [bool; 4] {
 
 #[test]
 fn signal_bits(rt: HostRuntime) {
-    assert!(rt; begin_with(&header(Rate::R36, 100), "101100010011000000000000"));
+    assert!(rt; begin_with(&HEADER.bits(), "101100010011000000000000"));
 }
 
 #[test]
@@ -78,7 +84,7 @@ fn scrambled_bits_of_the_first_symbol(rt: HostRuntime) {
 #[test]
 fn coded_signal(rt: HostRuntime) -> Result<(), Fail> {
     let mut coded = [false; 48];
-    let _ = encode(&header(Rate::R36, 100), CodeRate::Half, 0, &mut coded);
+    let _ = encode(&HEADER.bits(), CodeRate::Half, State::zeros(), &mut coded);
     assert!(rt; begin_with(&coded, "110100011010000100000010001111100111000000000000"));
     Ok(())
 }
@@ -88,7 +94,7 @@ fn coded_bits_of_the_first_symbol(rt: HostRuntime) -> Result<(), Fail> {
     let mut bits = [false; 144];
     let mut coded = [false; 192];
     let _ = fill_data_bits(MESSAGE, 93, 0, &mut bits);
-    let _ = encode(&bits, CodeRate::ThreeQuarters, 0, &mut coded);
+    let _ = encode(&bits, CodeRate::ThreeQuarters, State::zeros(), &mut coded);
     let published =
         "0010 1011 0000 1000 1010 0001 1111 0000 1001 1101 1011 0101 1001 1010 0001 1101 0100 1010 1111 1011 1110 1000 1100 0010 1000 1111 1100 0000 1100 1000 0111 0011 1100 0000 0100 0011 1110 0000";
     assert!(rt; begin_with(&coded, published));

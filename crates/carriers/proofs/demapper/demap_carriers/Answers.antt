@@ -1,11 +1,10 @@
-use Rattle.std.proofs.Common.{◌∙◌, arith, rules}
+use Rattle.std.proofs.Common.{◌∙◌, arith}
 use Rattle.carriers.proofs.Demapping.{demapped_more, demapped_all}
 use Rattle.carriers.proofs.Refusals.{good_at}
 use Rattle.carriers.proofs.demapper.demap_carriers.Goals as goal
 
-pub demap_carrier-requires : goal.demap_carrier-requires
-demap_carrier-requires g c =
-    record { is_number = good_at c.args.carriers.now c.requires.are_numbers c.loop-n.n _ c.loop-n-test.true; out_len = search rules }
+pub demap_carrier-requires-clause-is_number : goal.demap_carrier-requires-clause-is_number
+demap_carrier-requires-clause-is_number g c = good_at c.args.carriers.now c.requires.are_numbers c.loop-n.n _ c.loop-n-test.true
 
 pub loop-n-preserved : goal.loop-n-preserved
 loop-n-preserved g c =

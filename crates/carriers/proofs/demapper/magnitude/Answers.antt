@@ -1,12 +1,12 @@
-use Rattle.std.proofs.Common.{Bool, cond, sym, ap}
-use lib.Ieee.{of_bits, neg}
+use Rattle.std.proofs.Common.{rules}
+use lib.Ieee.{of_bits}
 use Rattle.carriers.proofs.demapper.magnitude.Goals as goal
 
 -- 0.0 by its bits is zero
 pub returns-then-x : goal.returns-then-x
 unfolding of_bits
-returns-then-x c = sym (ap (λ (b : Bool). cond b (neg c.args.x) c.args.x) c.if-x.true)
+returns-then-x c = search rules
 
 pub returns-else-x : goal.returns-else-x
 unfolding of_bits
-returns-else-x c = sym (ap (λ (b : Bool). cond b (neg c.args.x) c.args.x) c.if-x.false)
+returns-else-x c = search rules

@@ -5,8 +5,9 @@ use Rattle.coding.proofs.interleaver.deinterleave.Goals as goal
 pub returns : goal.returns
 returns g c =
     let from = c.args.from.now in
-    let to = c.permute.new.to in
+    let to = c.move_all.new.to in
+    let grid = c.requires.grid in
     record {
-      value = taken_back g.row.COLUMNS g.row.TURN g.row.GROUPS from c.requires.grid to (omega arith) c.permute.ensures;
-      placed = stood g.row.COLUMNS g.row.TURN g.row.GROUPS from c.requires.grid to (omega arith) c.permute.ensures;
+      value = taken_back g.row.COLUMNS g.row.TURN g.row.GROUPS from grid to (omega arith) c.move_all.ensures;
+      placed = stood g.row.COLUMNS g.row.TURN g.row.GROUPS from grid to (omega arith) c.move_all.ensures;
     }

@@ -8,4 +8,4 @@ pub encode-requires : goal.encode-requires
 unfolding sent_of sent_count
 encode-requires g c =
     let long : length c.fill_data_bits.new.out ≡ 144 = omega arith in
-    record { state_bound = omega arith; whole_periods = omega arith; out_len = ap (sent_count ThreeQuarters) (sym long) }
+    record { whole_periods = omega arith; out_len = ap (sent_count ThreeQuarters) (sym long) }

@@ -9,5 +9,5 @@ use Rattle.worked.proofs.vectors.coded_signal.Goals as goal
 pub encode-requires : goal.encode-requires
 unfolding sent_of sent_count
 encode-requires g c =
-    let long : length c.header.result ≡ 24 = ap length c.header.ensures ∙ (header_parts R36 100).long in
-    record { state_bound = omega arith; whole_periods = omega arith; out_len = ap (sent_count Half) (sym long) }
+    let long : length c.bits.result ≡ 24 = ap length c.bits.ensures ∙ (header_parts R36 100).long in
+    record { whole_periods = omega arith; out_len = ap (sent_count Half) (sym long) }

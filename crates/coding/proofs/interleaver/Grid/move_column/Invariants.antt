@@ -1,0 +1,9 @@
+use Rattle.std.proofs.Common.{◌+◌, ◌*◌}
+use Rattle.coding.specs.Interleaver.{Moved}
+use Rattle.coding.proofs.Deinterleaving.{flag}
+use Rattle.coding.proofs.interleaver.Grid.move_column.Given as goal
+
+abbrev pub invariant-loop-group : goal.invariant-loop-group
+invariant-loop-group g l =
+    Moved (flag g.row.BACK) g.row.COLUMNS g.row.TURN l.from l.initial.to (g.row.TURN * (g.row.GROUPS * l.column)) →
+    Moved (flag g.row.BACK) g.row.COLUMNS g.row.TURN l.from l.to (g.row.TURN * (g.row.GROUPS * l.column + l.group))

@@ -1,9 +1,0 @@
-use Rattle.std.proofs.Common.{◌+◌, ◌*◌}
-use Rattle.coding.specs.Interleaver.{Moved}
-use Rattle.coding.proofs.Deinterleaving.{flag}
-use Rattle.coding.proofs.interleaver.permute_group.Given as goal
-
-abbrev pub invariant-loop-t : goal.invariant-loop-t
-invariant-loop-t g l =
-    Moved (flag g.row.BACK) g.row.COLUMNS g.row.TURN l.from l.initial.to (g.row.TURN * (g.row.GROUPS * l.column + l.group)) →
-    Moved (flag g.row.BACK) g.row.COLUMNS g.row.TURN l.from l.to (g.row.TURN * (g.row.GROUPS * l.column + l.group) + l.t)
