@@ -5,6 +5,7 @@ use carriers::carrier::{Carrier, Point};
 use carriers::soft::SoftBit;
 use frame::rate::Rate;
 use phy::demodulator::demodulate;
+use sweeping::soft::code;
 
 // The carriers of 64 symbols.
 const DRAWN: usize = 3072;
@@ -20,21 +21,12 @@ fn carrier_from(first: u8, second: u8) -> Carrier {
     })
 }
 
-fn code(bit: SoftBit) -> u32 {
-    match bit {
-        SoftBit::Value(value) => u32::from(value.saturating_add(200).unsigned_abs()),
-        SoftBit::Absent => 1000,
-    }
-}
-
 // Every seventh pair counts: enough to tell that the pairs are right, and cheap beside the demodulating.
 fn add_pairs(sum: u32, pairs: &[(SoftBit, SoftBit)]) -> u32 {
-    let mut sum = sum;
-    for (a, b) in pairs.iter().step_by(7) {
+    pairs.iter().step_by(7).fold(sum, |sum, (a, b)| {
         let both = code(*a).wrapping_mul(3).wrapping_add(code(*b));
-        sum = sum.wrapping_mul(31).wrapping_add(both);
-    }
-    sum
+        sum.wrapping_mul(31).wrapping_add(both)
+    })
 }
 
 // Demodulates the symbols one by one over the same pairs.
@@ -42,11 +34,10 @@ fn demodulate_all(
     rate: Rate,
     carriers: &[Carrier],
     pairs: &mut [(SoftBit, SoftBit); 216],
-    sum: u32,
+    mut sum: u32,
 ) -> u32 {
-    let mut sum = sum;
-    for k in 0..carriers.len() / 48 {
-        if demodulate(rate, &carriers[48 * k..48 * k + 48], pairs).is_ok() {
+    for symbol in carriers.chunks_exact(48) {
+        if demodulate(rate, symbol, pairs).is_ok() {
             sum = add_pairs(sum, &pairs[0..rate.n_dbps()]);
         }
     }
@@ -54,8 +45,9 @@ fn demodulate_all(
 }
 
 fn make_carriers(bytes: &[u8], carriers: &mut [Carrier]) {
-    for n in 0..carriers.len().min(bytes.len() / 2) {
-        carriers[n] = carrier_from(bytes[2 * n], bytes[2 * n + 1]);
+    let (drawn, _) = bytes.as_chunks::<2>();
+    for (carrier, [first, second]) in carriers.iter_mut().zip(drawn) {
+        *carrier = carrier_from(*first, *second);
     }
 }
 

@@ -7,13 +7,13 @@ use phy::sending::Sending;
 // Every seventh carrier counts: enough to tell that the symbols are right, and cheap beside the sending. The sum of a
 // frame stays below 2^24, so it is exact.
 fn add_symbol(sum: f32, symbol: &[Carrier]) -> f32 {
-    let mut sum = sum;
-    for carrier in symbol.iter().step_by(7) {
-        if let Carrier::Heard(point) = carrier {
-            sum = sum + ((point.i + 8.0) * 31.0 + (point.q + 8.0));
-        }
-    }
-    sum
+    symbol
+        .iter()
+        .step_by(7)
+        .fold(sum, |sum, carrier| match carrier {
+            Carrier::Heard(point) => sum + ((point.i + 8.0) * 31.0 + (point.q + 8.0)),
+            Carrier::Struck => sum,
+        })
 }
 
 // Writes all symbols, one after the other, over the same 48 carriers.
@@ -33,8 +33,8 @@ fn send_all(sending: &mut Sending, symbol: &mut [Carrier]) -> f32 {
 #[unsafe(no_mangle)]
 pub extern "C" fn bench_send(rate: u32, seed: u32, bytes: &[u8]) -> f32 {
     let mut symbol = [Carrier::Struck; 48];
-    match Sending::new(rate, seed, bytes) {
-        Ok(mut sending) => send_all(&mut sending, &mut symbol),
-        Err(_) => 0.0,
-    }
+    let Ok(mut sending) = Sending::new(rate, seed, bytes) else {
+        return 0.0;
+    };
+    send_all(&mut sending, &mut symbol)
 }

@@ -111,7 +111,8 @@ fn demap_carrier(modulation: Modulation, carrier: Carrier, out: &mut [SoftBit])
     }
 }
 
-// What carriers of BITS bits say of them. (Over a `zip` with `chunks_exact_mut` a proof knows nothing of what was written.)
+// What carriers of BITS bits say of them. That they are numbers is known of a symbol as `check_symbol` gives it, but not by its type,
+// which only says how many they are: a type of its own would want a constructor for each caller. (Over a `zip` with `chunks_exact_mut` a proof knows nothing of what was written.)
 fn demap_carriers<const BITS: usize>(
     modulation: Modulation,
     carriers: &[Carrier],

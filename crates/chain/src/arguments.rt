@@ -1,80 +1,60 @@
 // The words of the command line.
 use crate::failure::Failure;
-use std::alloc::Global;
-use std::{env, fmt, io};
+use crate::send::Order;
+use std::{env, io};
+use thiserror::Error;
 
 // What the program is asked to do.
 #[derive(Clone, Copy)]
 pub enum Command<'a> {
     Example,
-    Send {
-        rate: u32,
-        seed: u32,
-        input: &'a str,
-        output: &'a str,
-    },
+    Send(Order<'a>),
 }
 
 // Words that ask for nothing the program does.
-#[derive(Drop)]
+#[derive(Debug, Drop, Error)]
 pub enum Misuse {
     // words that are no text
+    #[error("the command line cannot be read: {0}")]
     Unreadable(io::Error),
+    #[error("'{0}' is not a command: give no word, or send RATE SEED IN OUT")]
     UnknownCommand(String),
     // so many words after `send`
+    #[error("send takes four words, RATE SEED IN OUT, and {0} were given")]
     SendCount(usize),
-    // the name of a number, and the word in its place
-    NotANumber(&'static str, String),
-}
-
-impl fmt::Display for Misuse {
-    fn fmt<W: fmt::Write>(&self, f: &mut fmt::Formatter<W>) -> fmt::Result {
-        match self {
-            Misuse::Unreadable(error) => write!(f, "the command line cannot be read: {error}"),
-            Misuse::UnknownCommand(word) => write!(
-                f,
-                "'{word}' is not a command: give no word, or send RATE SEED IN OUT"
-            ),
-            Misuse::SendCount(count) => write!(
-                f,
-                "send takes four words, RATE SEED IN OUT, and {count} were given"
-            ),
-            Misuse::NotANumber(name, word) => write!(
-                f,
-                "{name} is a whole number in digits, and not '{word}'"
-            ),
-        }
-    }
+    // the word in the place of a number
+    #[error("RATE is a whole number in digits, and not '{0}'")]
+    Rate(String),
+    #[error("SEED is a whole number in digits, and not '{0}'")]
+    Seed(String),
 }
 
 // The words after the program's name.
 pub fn read_words(rt: &HostRuntime) -> Result<Vec<String>, Failure> {
-    match env::args(rt) {
-        Ok(words) => Ok(words.skip(1).collect(rt.alloc())?),
-        Err(error) => Err(Failure::Misuse(Misuse::Unreadable(error))),
-    }
+    let words = env::args(rt).map_err(Misuse::Unreadable)?;
+    Ok(words.skip(1).collect(rt.alloc())?)
 }
 
 // The command that the words give.
-pub fn read_command<'a>(heap: Global, words: &'a [String]) -> Result<Command<'a>, Failure> {
+pub fn read_command(words: &[String]) -> Result<Command<'_>, Failure> {
     match words {
         [] => Ok(Command::Example),
-        [name, rest @ ..] => match name.as_str() {
-            "send" => read_send(heap, rest),
-            unknown => Err(Failure::Misuse(Misuse::UnknownCommand(String::from_str(
-                heap, unknown,
-            )?))),
-        },
+        [name, rest @ ..] if name.as_str() == "send" => Ok(Command::Send(read_order(rest)?)),
+        [unknown, ..] => Err(Misuse::UnknownCommand(unknown.clone()?).into()),
     }
 }
 
-fn read_send<'a>(heap: Global, words: &'a [String]) -> Result<Command<'a>, Failure> {
-    let [rate, seed, input, output] = words else {
-        return Err(Failure::Misuse(Misuse::SendCount(words.len())));
+fn read_order(words: &[String]) -> Result<Order<'_>, Failure> {
+    let [rate_word, seed_word, input, output] = words else {
+        return Err(Misuse::SendCount(words.len()).into());
     };
-    let rate = number(heap, "RATE", rate.as_str())?;
-    let seed = number(heap, "SEED", seed.as_str())?;
-    Ok(Command::Send {
+    let Some(rate) = parse_number(rate_word.as_str()) else {
+        return Err(Misuse::Rate(rate_word.clone()?).into());
+    };
+    let Some(seed) = parse_number(seed_word.as_str()) else {
+        return Err(Misuse::Seed(seed_word.clone()?).into());
+    };
+    Ok(Order {
         rate,
         seed,
         input: input.as_str(),
@@ -82,28 +62,12 @@ fn read_send<'a>(heap: Global, words: &'a [String]) -> Result<Command<'a>, Failu
     })
 }
 
-fn number(heap: Global, name: &'static str, word: &str) -> Result<u32, Failure> {
-    match parse_number(word) {
-        Some(number) => Ok(number),
-        None => Err(Failure::Misuse(Misuse::NotANumber(name, String::from_str(heap, word)?))),
-    }
-}
-
 // A number too large for a u32 is read as the largest, which is as far outside what a sending takes.
 fn parse_number(word: &str) -> Option<u32> {
-    if !is_digits(word) {
+    if word.is_empty() || !word.bytes().all(|byte| byte.is_ascii_digit()) {
         return None;
     }
     Some(word.parse::<u32>().unwrap_or(u32::MAX))
-}
-
-fn is_digits(word: &str) -> bool {
-    for byte in word.as_bytes() {
-        if !byte.is_ascii_digit() {
-            return false;
-        }
-    }
-    !word.is_empty()
 }
 
 #[cfg(test)]

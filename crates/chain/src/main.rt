@@ -8,20 +8,15 @@ use std::process::ExitCode;
 mod arguments;
 mod example;
 mod failure;
-mod progress;
+mod message;
 mod recording;
 mod send;
 
 fn run(rt: &HostRuntime) -> Result<(), Failure> {
     let words = arguments::read_words(rt)?;
-    match arguments::read_command(rt.alloc(), words.as_slice())? {
+    match arguments::read_command(words.as_slice())? {
         Command::Example => example::run(rt),
-        Command::Send {
-            rate,
-            seed,
-            input,
-            output,
-        } => send::run(rt, rate, seed, input, output),
+        Command::Send(order) => send::run(rt, order),
     }
 }
 

@@ -1,5 +1,5 @@
 // A recording: a text file with a line for each symbol.
-use crate::failure::Failure;
+use crate::failure::{Action, Failure};
 use carriers::carrier::{Carrier, Point};
 use std::fs::File;
 use std::io::Write;
@@ -38,18 +38,23 @@ pub struct Recorder<'a> {
 
 impl<'a> Recorder<'a> {
     pub fn create(rt: &HostRuntime, path: &'a str) -> Result<Recorder<'a>, Failure> {
-        match fs::create(rt, path) {
-            Ok(file) => Ok(Recorder { file, path }),
-            Err(error) => Err(Failure::at_file(rt.alloc(), "write", path, error)),
-        }
+        let file = fs::create(rt, path).map_err(|error| Failure::at_file(
+            rt.alloc(),
+            Action::Write,
+            path,
+            error,
+        ))?;
+        Ok(Recorder { file, path })
     }
 
     pub fn write(&mut self, rt: &HostRuntime, symbol: &[Carrier]) -> Result<(), Failure> {
         let line = format!(in rt.alloc(); "{}\n", Line(symbol))?;
-        match self.file.write_all(line.as_bytes()) {
-            Ok(()) => Ok(()),
-            Err(error) => Err(Failure::at_file(rt.alloc(), "write", self.path, error)),
-        }
+        self.file.write_all(line.as_bytes()).map_err(|error| Failure::at_file(
+            rt.alloc(),
+            Action::Write,
+            self.path,
+            error,
+        ))
     }
 }
 

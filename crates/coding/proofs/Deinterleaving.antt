@@ -3,7 +3,7 @@ use Rattle.std.proofs.Common.{◌≡◌, ℕ, ◌+◌, ◌*◌, ◌<◌, Bool, t
 use Rattle.std.proofs.lemmas.Bool.{cases_eq}
 use Rattle.std.proofs.lemmas.List.FromFn.{fill_by_all, get_or-map-range_with_len, length-map-range_with_len}
 use Rattle.coding.specs.Interleaver.{Grid, place, source, Inverse, Placed, target, origin, Moved, interleaved, deinterleaved, ComesBack}
-use Rattle.coding.proofs.Interleaving.{undone, grid_over, within, fetched, places}
+use Rattle.coding.proofs.Interleaving.{undone, within, fetched, places}
 
 -- a flag among the const parameters, which a proof has as a number
 abbrev pub flag : ℕ → Bool
@@ -42,13 +42,12 @@ ends_at back columns s t n j k o m g h e p q =
     }
 
 -- the same at place i of a group, by what the code computed of it
-pub ends_in_group : (back : Bool) (columns s t n column group i k o m : ℕ) → Grid columns s t (columns * (s * t)) → n ≡ columns * (s * t) → column < columns → group < t → i < s →
-    k ≡ source columns (columns * (s * t)) s (s * (t * column + group) + i) → o ≡ cond back (s * (t * column + group) + i) k → m ≡ cond back k (s * (t * column + group) + i) →
+pub ends_in_group : (back : Bool) (columns s t n column group i k o m : ℕ) → Grid columns s t n → column < columns → group < t → i < s →
+    k ≡ source columns n s (s * (t * column + group) + i) → o ≡ cond back (s * (t * column + group) + i) k → m ≡ cond back k (s * (t * column + group) + i) →
     Ends back columns n s (s * (t * column + group) + i) o m
-ends_in_group back columns s t n column group i k o m g long hc hg hi e p q =
-    let grid = grid_over columns s t n g long in
+ends_in_group back columns s t n column group i k o m grid hc hg hi e p q =
     let w = within columns s t n column group grid hc hg in
-    ends_at back columns s t n (s * (t * column + group) + i) k o m grid (omega (arith, w.fits)) (e ∙ ap (λ (z : ℕ). source columns z s (s * (t * column + group) + i)) (sym long)) p q
+    ends_at back columns s t n (s * (t * column + group) + i) k o m grid (omega (arith, w.fits)) e p q
 
 -- one place more
 module _ {X : Type 0} (back : Bool) (columns s t : ℕ) (xs : List X) (g : Grid columns s t (length xs)) where

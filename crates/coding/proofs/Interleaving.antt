@@ -160,10 +160,6 @@ pub undone : (columns s groups n : ℕ) → Grid columns s groups n → Inverse 
 undone columns s groups n g =
     subst (λ (z : ℕ). Inverse columns z s) (sym g.whole) (inverse_whole columns s groups g.some_columns g.some_size g.some_groups)
 
--- a grid by its own size, over a row of that many
-pub grid_over : (columns s t n : ℕ) → Grid columns s t (columns * (s * t)) → n ≡ columns * (s * t) → Grid columns s t n
-grid_over columns s t n g e = record { some_columns = g.some_columns; some_size = g.some_size; some_groups = g.some_groups; whole = e }
-
 -- what the code computes, at a row of a column
 module _ (columns s t n column row : ℕ) (g : Grid columns s t n) (hc : column < columns) (hr : row < s * t) where
   turned_row : ℕ

@@ -1,5 +1,6 @@
 -- The convolutional coder of constraint length 7.
-use Rattle.std.specs.Prelude.{ℕ, ◌+◌, ◌*◌, ◌/◌, ◌%◌, Bool, List, [], ◌∷◌, ◌==◌, bit_and, count_ones}
+use Rattle.std.specs.Prelude.{ℕ, ◌+◌, ◌*◌, ◌/◌, ◌%◌, Bool, cond, List, [], ◌∷◌, Ok, Err, Result, ◌==◌, nat_lt, bit_and, count_ones}
+use Rattle.coding.specs.declared.coder.NoState.{NoState}
 use Rattle.frame.specs.Bits.{bit_of}
 
 -- a state is the last six bits as a number, the newest counting 32; a new bit enters and the oldest falls out
@@ -26,3 +27,7 @@ state_from s (b ∷ bits) = state_from (next_state s b) bits
 -- the coder starts from zeros
 abbrev pub coded : List Bool → List (Bool × Bool)
 coded bits = coded_from 0 bits
+
+-- a number as a state, or that it is none
+abbrev pub state_or_none : ℕ → Result ℕ NoState
+state_or_none n = cond (nat_lt n 64) (Ok n) (Err (record { number = n }))

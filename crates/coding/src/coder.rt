@@ -1,7 +1,9 @@
 // The convolutional coder, one bit at a time.
 ghost use Rattle.std.specs.Prelude.{◌≡◌};
-ghost use Rattle.coding.specs.Coder.{next_state, outputs as outputs_of};
+ghost use Rattle.coding.specs.Coder.{next_state, outputs as outputs_of, state_or_none};
 
+use std::error::Error;
+use std::fmt;
 use std::marker::Model;
 
 // What the coder holds between two bits: the last six, as a number in which the newest counts 32.
@@ -21,6 +23,43 @@ impl Model for State {
     ghost invariant = { λ s. s.bits < 64 };
 
     ghost inverse = { λ n. record { bits = n } };
+}
+
+// A number that is no state, since it has more than six bits.
+#[derive(Clone, Copy, Debug, PartialEq, Eq)]
+pub struct NoState {
+    pub number: u8,
+}
+
+impl fmt::Display for NoState {
+    fn fmt<W: fmt::Write>(&self, f: &mut fmt::Formatter<W>) -> fmt::Result {
+        let number = self.number;
+        write!(f, "{number} is no state of the coder: it is not below 64")
+    }
+}
+
+impl Error for NoState {}
+
+impl TryFrom<u8> for State {
+    type Error = NoState;
+
+    ghost try_from_gives = { λ number result. result ≡ state_or_none number };
+
+    fn try_from(number: u8) -> Result<State, NoState> {
+        if number < 64 {
+            Ok(State { bits: number })
+        } else {
+            Err(NoState { number })
+        }
+    }
+}
+
+impl From<State> for u8 {
+    ghost from_gives = { λ state number. number ≡ state };
+
+    fn from(state: State) -> u8 {
+        state.bits
+    }
 }
 
 impl State {

@@ -50,7 +50,7 @@ fn depuncture_with<T: Copy, P: Pattern>(sent: &[T], hole: T, out: &mut [(T, T)])
     ensures { out.new ≡ depunctured hole P.code_rate (length out.old) sent.now }
 {
     let (in_pairs, in_sent) = (P::PAIRS, P::SENT);
-    // by the index, as the encoder's periods are
+    // by the period's number, and not by `chunks_exact_mut`, after which nothing is known of a slice's elements
     for k in 0..out.len() / in_pairs {
         let period = &sent[k * in_sent..k * in_sent + in_sent];
         let pairs = &mut out[k * in_pairs..k * in_pairs + in_pairs];
@@ -64,6 +64,7 @@ pub fn depuncture<T: Copy>(sent: &[T], code_rate: CodeRate, hole: T, out: &mut [
     requires sent_len { length sent.now ≡ sent_count code_rate (length out.old) }
     ensures { out.new ≡ depunctured hole code_rate (length out.old) sent.now }
 {
+    // a coding rate's pattern is a type, and only the names of types can be given
     match code_rate {
         CodeRate::Half => depuncture_with::<T, Half>(sent, hole, out),
         CodeRate::TwoThirds => depuncture_with::<T, TwoThirds>(sent, hole, out),

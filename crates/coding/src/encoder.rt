@@ -33,7 +33,7 @@ fn encode_with<P: Pattern>(bits: &[bool], state: State, out: &mut [bool]) -> Sta
 {
     let (pairs, sent) = (P::PAIRS, P::SENT);
     let mut held = state;
-    // not by `chunks_exact_mut`: nothing is known of a slice's elements after their parts were lent by it
+    // by the period's number, and not by `chunks_exact_mut`, after which nothing is known of a slice's elements
     for k in 0..bits.len() / pairs {
         let period = &bits[k * pairs..k * pairs + pairs];
         held = encode_period::<P>(period, held, &mut out[k * sent..k * sent + sent]);
@@ -47,6 +47,7 @@ pub fn encode(bits: &[bool], code_rate: CodeRate, state: State, out: &mut [bool]
     requires out_len { length out.old ≡ sent_count code_rate (length bits.now) }
     ensures { Encoded bits.now code_rate state result out.new }
 {
+    // a coding rate's pattern is a type, and only the names of types can be given
     match code_rate {
         CodeRate::Half => encode_with::<Half>(bits, state, out),
         CodeRate::TwoThirds => encode_with::<TwoThirds>(bits, state, out),

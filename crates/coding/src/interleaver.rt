@@ -15,21 +15,29 @@ pub fn interleaved_lists_come_back<T>()
     ensures { ComesBack T }
 {}
 
-// The places of a symbol: COLUMNS columns, each of GROUPS groups of TURN places. It holds no data, only what makes it a grid. That
-// a slice is as long, each method asks: no type can say it, since no length is computed from const parameters.
-struct Grid<const COLUMNS: usize, const TURN: usize, const GROUPS: usize> {
-    ghost is_grid: { IsGrid COLUMNS TURN GROUPS (COLUMNS * (TURN * GROUPS)) },
-    ghost few: { COLUMNS * (TURN * GROUPS) < 65536 },
+// The bits of a symbol over its places: COLUMNS columns, each of GROUPS groups of TURN places. That these make a grid of them is
+// known of every value.
+#[derive(Drop)]
+struct Grid<'a, T, const COLUMNS: usize, const TURN: usize, const GROUPS: usize> {
+    from: &'a [T],
+    ghost is_grid: { IsGrid COLUMNS TURN GROUPS (length from.now) },
+    ghost below_65536: { length from.now < 65536 },
 }
 
-impl<const COLUMNS: usize, const TURN: usize, const GROUPS: usize> Grid<COLUMNS, TURN, GROUPS> {
+impl<'a, T: Copy, const COLUMNS: usize, const TURN: usize, const GROUPS: usize> Grid<
+    'a,
+    T,
+    COLUMNS,
+    TURN,
+    GROUPS,
+> {
     // The coded bit that goes to place `t` of a group of a column: each group is turned by its column.
     fn source(&self, column: usize, group: usize, t: usize) -> usize
         requires column_bound { column < COLUMNS }
         requires group_bound { group < GROUPS }
         requires t_bound { t < TURN }
-        ensures value { result ≡ source COLUMNS (COLUMNS * (TURN * GROUPS)) TURN (TURN * (GROUPS * column + group) + t) }
-        ensures within { result < COLUMNS * (TURN * GROUPS) }
+        ensures value { result ≡ source COLUMNS (length self.now.from.now) TURN (TURN * (GROUPS * column + group) + t) }
+        ensures within { result < length self.now.from.now }
     {
         let turned = within_group::<TURN>(t + column % TURN);
         COLUMNS * (TURN * group + turned) + column
@@ -37,19 +45,13 @@ impl<const COLUMNS: usize, const TURN: usize, const GROUPS: usize> Grid<COLUMNS,
 
     // Moves the bits of one group: where the places before it are done, so are its own. It goes by the coordinates of the grid, since
     // one of both slices is met out of order.
-    fn move_group<T: Copy, const BACK: bool>(
-        &self,
-        from: &[T],
-        column: usize,
-        group: usize,
-        to: &mut [T],
-    )
-        requires from_len { length from.now ≡ COLUMNS * (TURN * GROUPS) }
-        requires to_len { length to.old ≡ length from.now }
+    fn move_group<const BACK: bool>(&self, column: usize, group: usize, to: &mut [T])
+        requires to_len { length to.old ≡ length self.now.from.now }
         requires column_bound { column < COLUMNS }
         requires group_bound { group < GROUPS }
-        ensures { Moved BACK COLUMNS TURN from.now to.old (TURN * (GROUPS * column + group)) → Moved BACK COLUMNS TURN from.now to.new (TURN * (GROUPS * column + group + 1)) }
+        ensures { Moved BACK COLUMNS TURN self.now.from.now to.old (TURN * (GROUPS * column + group)) → Moved BACK COLUMNS TURN self.now.from.now to.new (TURN * (GROUPS * column + group + 1)) }
     {
+        let from = self.from;
         let first = TURN * (GROUPS * column + group);
         for t in 0..TURN {
             let (origin, target) = ends::<BACK>(first + t, self.source(column, group, t));
@@ -58,25 +60,23 @@ impl<const COLUMNS: usize, const TURN: usize, const GROUPS: usize> Grid<COLUMNS,
     }
 
     // Moves the bits of one column in the same way.
-    fn move_column<T: Copy, const BACK: bool>(&self, from: &[T], column: usize, to: &mut [T])
-        requires from_len { length from.now ≡ COLUMNS * (TURN * GROUPS) }
-        requires to_len { length to.old ≡ length from.now }
+    fn move_column<const BACK: bool>(&self, column: usize, to: &mut [T])
+        requires to_len { length to.old ≡ length self.now.from.now }
         requires column_bound { column < COLUMNS }
-        ensures { Moved BACK COLUMNS TURN from.now to.old (TURN * (GROUPS * column)) → Moved BACK COLUMNS TURN from.now to.new (TURN * (GROUPS * column + GROUPS)) }
+        ensures { Moved BACK COLUMNS TURN self.now.from.now to.old (TURN * (GROUPS * column)) → Moved BACK COLUMNS TURN self.now.from.now to.new (TURN * (GROUPS * column + GROUPS)) }
     {
         for group in 0..GROUPS {
-            self.move_group::<T, BACK>(from, column, group, to);
+            self.move_group::<BACK>(column, group, to);
         }
     }
 
     // Moves all of them.
-    fn move_all<T: Copy, const BACK: bool>(&self, from: &[T], to: &mut [T])
-        requires from_len { length from.now ≡ COLUMNS * (TURN * GROUPS) }
-        requires to_len { length to.old ≡ length from.now }
-        ensures { Moved BACK COLUMNS TURN from.now to.new (length from.now) }
+    fn move_all<const BACK: bool>(&self, to: &mut [T])
+        requires to_len { length to.old ≡ length self.now.from.now }
+        ensures { Moved BACK COLUMNS TURN self.now.from.now to.new (length self.now.from.now) }
     {
         for column in 0..COLUMNS {
-            self.move_column::<T, BACK>(from, column, to);
+            self.move_column::<BACK>(column, to);
         }
     }
 }
@@ -89,7 +89,8 @@ fn within_group<const TURN: usize>(sum: usize) -> usize
     if sum < TURN { sum } else { sum - TURN }
 }
 
-// From where to where a bit is moved: from its source to its place, or back.
+// From where to where a bit is moved: from its source to its place, or back. (A flag, and no type for each way: all that it decides
+// is this pair.)
 fn ends<const BACK: bool>(place: usize, source: usize) -> (usize, usize)
     ensures origin { result.0 ≡ (if BACK then place else source) }
     ensures target { result.1 ≡ (if BACK then source else place) }
@@ -113,7 +114,7 @@ pub fn interleave<T: Copy, const COLUMNS: usize, const TURN: usize, const GROUPS
     ensures value { (d : T) → to.new ≡ interleaved d COLUMNS TURN from.now }
     ensures placed { Placed COLUMNS TURN from.now to.new }
 {
-    Grid::<COLUMNS, TURN, GROUPS> {}.move_all::<T, false>(from, to);
+    Grid::<T, COLUMNS, TURN, GROUPS> { from }.move_all::<false>(to);
 }
 
 // Takes what stands at the place of each k in `from` back to k in `to`.
@@ -127,7 +128,7 @@ pub fn deinterleave<T: Copy, const COLUMNS: usize, const TURN: usize, const GROU
     ensures value { (d : T) → to.new ≡ deinterleaved d COLUMNS TURN from.now }
     ensures placed { Placed COLUMNS TURN to.new from.now }
 {
-    Grid::<COLUMNS, TURN, GROUPS> {}.move_all::<T, true>(from, to);
+    Grid::<T, COLUMNS, TURN, GROUPS> { from }.move_all::<true>(to);
 }
 
 // The bits of a symbol of 48 carriers, which has 16 columns, to their places, or back.
@@ -136,15 +137,16 @@ fn move_symbol<T: Copy, const BACK: bool>(modulation: Modulation, from: &[T], to
     requires to_len { length to.old ≡ length from.now }
     ensures { Moved BACK 16 (turn_size modulation) from.now to.new (length from.now) }
 {
+    // a modulation's grid is a type, and only the names of types can be given
     match modulation {
-        Modulation::Bpsk => Grid::<16, 1, 3> {}.move_all::<T, BACK>(from, to),
-        Modulation::Qpsk => Grid::<16, 1, 6> {}.move_all::<T, BACK>(from, to),
-        Modulation::Qam16 => Grid::<16, 2, 6> {}.move_all::<T, BACK>(from, to),
-        Modulation::Qam64 => Grid::<16, 3, 6> {}.move_all::<T, BACK>(from, to),
+        Modulation::Bpsk => Grid::<T, 16, 1, 3> { from }.move_all::<BACK>(to),
+        Modulation::Qpsk => Grid::<T, 16, 1, 6> { from }.move_all::<BACK>(to),
+        Modulation::Qam16 => Grid::<T, 16, 2, 6> { from }.move_all::<BACK>(to),
+        Modulation::Qam64 => Grid::<T, 16, 3, 6> { from }.move_all::<BACK>(to),
     }
 }
 
-// The coded bits of a symbol to their places.
+// The coded bits of a symbol to their places. (This and the next, too, are names of the walk's two directions.)
 pub fn interleave_symbol<T: Copy>(modulation: Modulation, from: &[T], to: &mut [T])
     requires from_len { length from.now ≡ 48 * n_bpsc modulation }
     requires to_len { length to.old ≡ length from.now }

@@ -20,7 +20,8 @@ fn four_plain_bits(bytes: &[u8], n: usize) -> u8
     }
 }
 
-// The four key bits over them, the first as the highest bit: none in the tail.
+// The four key bits over them, the first as the highest bit: none in the tail. (Each test returns at once: after an `||` a proof
+// would not know which of both held.)
 fn four_masked(length: usize, n: usize, key: u8) -> u8
     requires { n % 4 ≡ 0 }
     ensures { Masked length n key result }
@@ -54,18 +55,18 @@ pub fn fill_data_bits(bytes: &[u8], register: u8, start: usize, out: &mut [bool]
     ensures bits { out.new ≡ bits_under bytes.now register start (len out.old) }
     ensures moved { result ≡ register_after register (len out.old) }
 {
-    let mut now_at = register;
+    let mut here = register;
     // not by `chunks_exact_mut`: nothing is known of a slice's elements after their parts were lent by it
     for g in 0..out.len() / 4 {
         let n = start + 4 * g;
-        let (key_bits, after) = next_four_key_bits(now_at);
+        let (key_bits, after) = next_four_key_bits(here);
         let masked = four_masked(bytes.len(), n, key_bits);
         write_four(
             four_plain_bits(bytes, n),
             masked,
             &mut out[4 * g..4 * g + 4],
         );
-        now_at = after;
+        here = after;
     }
-    now_at
+    here
 }

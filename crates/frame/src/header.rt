@@ -4,7 +4,7 @@ ghost use Rattle.std.specs.List.{range_with_len};
 ghost use Rattle.frame.specs.Bits.{bit_at, odd};
 ghost use Rattle.frame.specs.Rate.{shape};
 ghost use Rattle.frame.specs.Header.{header};
-ghost use Rattle.frame.specs.Data.{symbols, pads};
+ghost use Rattle.frame.specs.Data.{steps, symbols, pads};
 
 use crate::rate::Rate;
 
@@ -15,7 +15,7 @@ pub struct Header {
     pub length: u16,
 }
 
-// A number's lowest twelve bits, lowest first.
+// A number's lowest twelve bits, lowest first. (Of what `array::from_fn` makes, nothing is known that its closure captured.)
 fn twelve_bits(number: u16) -> [bool; 12]
     ensures { result ≡ map (bit_at number) (range_with_len 0 12) }
 {
@@ -45,18 +45,25 @@ impl Header {
         bits
     }
 
+    // The data up to the tail's end: 16 SERVICE bits, the bytes and six tail bits.
+    fn steps(self) -> usize
+        ensures { result ≡ steps self.length }
+    {
+        22 + 8 * usize::from(self.length)
+    }
+
     // N_SYM, the data symbols of the frame.
     #[tactic(auto, using(crate::proofs::DataBits::symbols_are))]
     pub fn symbol_count(self) -> usize
         ensures { result ≡ symbols (shape self.rate) self.length }
     {
-        (22 + 8 * self.length as usize).div_ceil(self.rate.n_dbps())
+        self.steps().div_ceil(self.rate.n_dbps())
     }
 
     // The pad bits that fill the last symbol.
     pub fn pad_count(self) -> usize
         ensures { result ≡ pads (shape self.rate) self.length }
     {
-        self.symbol_count() * self.rate.n_dbps() - (22 + 8 * self.length as usize)
+        self.symbol_count() * self.rate.n_dbps() - self.steps()
     }
 }

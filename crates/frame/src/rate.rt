@@ -23,7 +23,7 @@ pub enum CodeRate {
     ThreeQuarters,
 }
 
-// How a symbol's data bits are coded and mapped: all that the bit chain has to know of a rate.
+// How a symbol's data bits are coded and mapped, by which all rates differ.
 #[derive(Clone, Copy, Debug, PartialEq, Eq)]
 pub struct Mode {
     pub modulation: Modulation,

@@ -59,7 +59,10 @@ impl fmt::Display for SendFault {
             SendFault::Seed(seed) => write!(f, "the seed {seed} is outside 1 to 127"),
             SendFault::Length(count) => write!(f, "{count} bytes: a frame holds 1 to 4095 bytes"),
             SendFault::Over => write!(f, "the sending is over"),
-            SendFault::Carriers(count) => write!(f, "{count} carriers: a symbol has 48"),
+            SendFault::Carriers(count) => {
+                let fault = SymbolFault::Count(*count);
+                write!(f, "{fault}")
+            }
         }
     }
 }

@@ -7,6 +7,7 @@ ghost use Rattle.phy.specs.InStep.{InStep};
 use crate::fault::SendFault;
 use crate::symbol::write_symbol;
 use carriers::carrier::Carrier;
+use carriers::check::CARRIERS;
 use coding::coder::State;
 use frame::data::fill_data_bits;
 use frame::header::Header;
@@ -22,7 +23,7 @@ const MOST_BYTES: usize = 4095;
 #[derive(Drop)]
 pub struct Sending<'a> {
     bytes: &'a [u8],
-    rate: Rate,
+    header: Header,
     // what the register began with; only proofs read it
     seed: u8,
     // how many symbols there are, the header among them, and how many of them were written
@@ -47,7 +48,7 @@ impl<'a> Model for Sending<'a> {
 
 // Writes the header's symbol, by the rules of rate 6.
 #[tactic(auto, using(crate::proofs::Shapes::header_fills), unfolding(crate::specs::Symbols::header_symbol))]
-fn write_header(header: Header, out: &mut [Carrier; 48])
+fn write_header(header: Header, out: &mut [Carrier; CARRIERS])
     ensures { out.new ≡ header_symbol header.rate header.length }
 {
     let _ = write_symbol(Rate::R6.mode(), &header.bits(), State::zeros(), out);
@@ -73,7 +74,7 @@ impl<'a> Sending<'a> {
         let total = header.symbol_count() + 1;
         Ok(Sending {
             bytes,
-            rate,
+            header,
             seed: seed as u8,
             total: total as u16,
             written: 0,
@@ -83,18 +84,18 @@ impl<'a> Sending<'a> {
     }
 
     // Writes the next symbol, one of the data, and returns the scrambler's register and the coder's state after it.
-    fn write_data(&self, out: &mut [Carrier; 48]) -> (u8, State)
+    fn write_data(&self, out: &mut [Carrier; CARRIERS]) -> (u8, State)
         requires past_header { 0 < self.now.written }
         requires not_over { self.now.written < all_symbols self.now }
         ensures carriers { out.new ≡ next_symbol self.now }
         ensures after { InStep (one_further self.now) result.0 result.1 }
     {
-        let n_dbps = self.rate.n_dbps();
+        let n_dbps = self.header.rate.n_dbps();
         let first = usize::from(self.written - 1) * n_dbps;
         let mut bits = [false; 216];
         let bits = &mut bits[..n_dbps];
         let register = fill_data_bits(self.bytes, self.register, first, bits);
-        let state = write_symbol(self.rate.mode(), bits, self.state, out);
+        let state = write_symbol(self.header.rate.mode(), bits, self.state, out);
         (register, state)
     }
 
@@ -109,14 +110,7 @@ impl<'a> Sending<'a> {
             return Err(SendFault::Carriers(out.len()));
         };
         if self.written == 0 {
-            let length = self.bytes.len() as u16;
-            write_header(
-                Header {
-                    rate: self.rate,
-                    length,
-                },
-                carriers,
-            );
+            write_header(self.header, carriers);
         } else {
             (self.register, self.state) = self.write_data(carriers);
         }

@@ -2,69 +2,51 @@
 use carriers::carrier::Carrier;
 use frame::header::Header;
 use frame::rate::Rate;
+use phy::fault::SendFault;
 use phy::sending::Sending;
 use std::test::Fail;
 
 const EMPTY: [Carrier; 48] = [Carrier::Struck; 48];
 
-// The fault that refuses a sending, or 0 where it is made.
-fn making(rate: u32, seed: u32, bytes: &[u8]) -> u8 {
-    match Sending::new(rate, seed, bytes) {
-        Ok(_) => 0,
-        Err(fault) => fault.number(),
-    }
+// The number of the fault that refuses a sending, if one does.
+fn making_fault(rate: u32, seed: u32, bytes: &[u8]) -> Option<u8> {
+    Sending::new(rate, seed, bytes)
+        .err()
+        .map(|fault| fault.number())
 }
 
-// The fault that refuses the next symbol, or 0 where it is written.
-fn next_fault(sending: &mut Sending, out: &mut [Carrier]) -> u8 {
-    match sending.next(out) {
-        Ok(()) => 0,
-        Err(fault) => fault.number(),
-    }
-}
-
-fn is_heard(carrier: Carrier) -> bool {
-    match carrier {
-        Carrier::Heard(_) => true,
-        Carrier::Struck => false,
-    }
+// The number of the fault that refuses the next symbol, if one does.
+fn next_fault(sending: &mut Sending, out: &mut [Carrier]) -> Option<u8> {
+    sending.next(out).err().map(|fault| fault.number())
 }
 
 fn all_heard(carriers: &[Carrier]) -> bool {
-    for carrier in carriers {
-        if !is_heard(*carrier) {
-            return false;
-        }
-    }
-    true
+    carriers
+        .iter()
+        .all(|carrier| matches!(carrier, Carrier::Heard(_)))
 }
 
 fn none_heard(carriers: &[Carrier]) -> bool {
-    for carrier in carriers {
-        if is_heard(*carrier) {
-            return false;
-        }
-    }
-    true
+    carriers.iter().all(|carrier| *carrier == Carrier::Struck)
 }
 
-// How many symbols a sending writes before it is over.
-fn symbols_sent(rate: u32, seed: u32, bytes: &[u8]) -> usize {
-    let Ok(mut sending) = Sending::new(rate, seed, bytes) else {
-        return 0;
-    };
+// How many symbols a sending writes before it is over; none where a symbol is not heard whole, or the end does not come.
+fn symbols_sent(rate: u32, seed: u32, bytes: &[u8]) -> Result<Option<usize>, SendFault> {
+    let mut sending = Sending::new(rate, seed, bytes)?;
     for n in 0..3000 {
         let mut carriers = EMPTY;
-        if next_fault(&mut sending, &mut carriers) != 0 || !all_heard(&carriers) {
-            return n;
+        match sending.next(&mut carriers) {
+            Ok(()) if all_heard(&carriers) => {}
+            Err(SendFault::Over) => return Ok(Some(n)),
+            _ => return Ok(None),
         }
     }
-    3000
+    Ok(None)
 }
 
 // One header and N_SYM data symbols.
 #[test]
-fn shortest_and_longest(rt: HostRuntime) {
+fn shortest_and_longest(rt: HostRuntime) -> Result<(), Fail> {
     let long = [0xa5u8; 4095];
     let rows: [(u32, usize, usize); 8] = [
         (6, 3, 1367),
@@ -77,22 +59,23 @@ fn shortest_and_longest(rt: HostRuntime) {
         (54, 2, 153),
     ];
     for (rate, short_count, long_count) in rows {
-        assert_eq!(rt; symbols_sent(rate, 1, &[0]), short_count);
-        assert_eq!(rt; symbols_sent(rate, 127, &long), long_count);
+        assert_eq!(rt; symbols_sent(rate, 1, &[0])?, Some(short_count));
+        assert_eq!(rt; symbols_sent(rate, 127, &long)?, Some(long_count));
     }
+    Ok(())
 }
 
 #[test]
 fn refusals_of_making(rt: HostRuntime) {
     let bytes = [7u8; 4096];
-    assert_eq!(rt; making(7, 0, &[]), 16);
-    assert_eq!(rt; making(0, 1, &[1]), 16);
-    assert_eq!(rt; making(54, 0, &[]), 13);
-    assert_eq!(rt; making(54, 128, &bytes), 13);
-    assert_eq!(rt; making(54, 127, &[]), 14);
-    assert_eq!(rt; making(54, 1, &bytes), 14);
-    assert_eq!(rt; making(54, 127, &[1]), 0);
-    assert_eq!(rt; making(6, 1, &bytes[0..4095]), 0);
+    assert_eq!(rt; making_fault(7, 0, &[]), Some(16));
+    assert_eq!(rt; making_fault(0, 1, &[1]), Some(16));
+    assert_eq!(rt; making_fault(54, 0, &[]), Some(13));
+    assert_eq!(rt; making_fault(54, 128, &bytes), Some(13));
+    assert_eq!(rt; making_fault(54, 127, &[]), Some(14));
+    assert_eq!(rt; making_fault(54, 1, &bytes), Some(14));
+    assert_eq!(rt; making_fault(54, 127, &[1]), None);
+    assert_eq!(rt; making_fault(6, 1, &bytes[0..4095]), None);
 }
 
 // A slice that is not 48 long neither moves the sending on nor is written to.
@@ -102,12 +85,12 @@ fn refused_slices(rt: HostRuntime) -> Result<(), Fail> {
     let mut long = [Carrier::Struck; 49];
     let mut carriers = EMPTY;
     let mut sending = Sending::new(54, 93, &[1, 2, 3])?;
-    assert_eq!(rt; next_fault(&mut sending, &mut short), 1);
-    assert_eq!(rt; next_fault(&mut sending, &mut long), 1);
+    assert_eq!(rt; next_fault(&mut sending, &mut short), Some(1));
+    assert_eq!(rt; next_fault(&mut sending, &mut long), Some(1));
     assert!(rt; none_heard(&short) && none_heard(&long));
-    assert_eq!(rt; next_fault(&mut sending, &mut carriers), 0);
-    assert_eq!(rt; next_fault(&mut sending, &mut carriers), 0);
-    assert_eq!(rt; next_fault(&mut sending, &mut carriers), 15);
+    assert_eq!(rt; next_fault(&mut sending, &mut carriers), None);
+    assert_eq!(rt; next_fault(&mut sending, &mut carriers), None);
+    assert_eq!(rt; next_fault(&mut sending, &mut carriers), Some(15));
     Ok(())
 }
 
@@ -120,60 +103,22 @@ fn refused_at_the_end(rt: HostRuntime) -> Result<(), Fail> {
     let mut sending = Sending::new(54, 93, &[1, 2, 3])?;
     sending.next(&mut carriers)?;
     sending.next(&mut carriers)?;
-    assert_eq!(rt; next_fault(&mut sending, &mut short), 15);
-    assert_eq!(rt; next_fault(&mut sending, &mut after), 15);
+    assert_eq!(rt; next_fault(&mut sending, &mut short), Some(15));
+    assert_eq!(rt; next_fault(&mut sending, &mut after), Some(15));
     assert!(rt; none_heard(&short) && none_heard(&after));
     Ok(())
 }
 
 #[test]
 fn symbols_and_pads(rt: HostRuntime) {
-    assert_eq!(rt;
-        Header {
-            rate: Rate::R36,
-            length: 100
-        }
-        .symbol_count(),
-        6
-    );
-    assert_eq!(rt;
-        Header {
-            rate: Rate::R36,
-            length: 100
-        }
-        .pad_count(),
-        42
-    );
-    assert_eq!(rt;
-        Header {
-            rate: Rate::R6,
-            length: 1
-        }
-        .symbol_count(),
-        2
-    );
-    assert_eq!(rt;
-        Header {
-            rate: Rate::R6,
-            length: 1
-        }
-        .pad_count(),
-        18
-    );
-    assert_eq!(rt;
-        Header {
-            rate: Rate::R54,
-            length: 4095
-        }
-        .symbol_count(),
-        152
-    );
-    assert_eq!(rt;
-        Header {
-            rate: Rate::R54,
-            length: 4095
-        }
-        .pad_count(),
-        50
-    );
+    let rows: [(Rate, u16, usize, usize); 3] = [
+        (Rate::R36, 100, 6, 42),
+        (Rate::R6, 1, 2, 18),
+        (Rate::R54, 4095, 152, 50),
+    ];
+    for (rate, length, symbols, pads) in rows {
+        let header = Header { rate, length };
+        assert_eq!(rt; header.symbol_count(), symbols);
+        assert_eq!(rt; header.pad_count(), pads);
+    }
 }

@@ -7,60 +7,43 @@ use frame::data::fill_data_bits;
 use frame::header::Header;
 use frame::rate::{CodeRate, Rate};
 use phy::demodulator::demodulate;
+use phy::fault::SendFault;
 use phy::sending::Sending;
 use std::test::Fail;
 
 const RATES: [u32; 8] = [6, 9, 12, 18, 24, 36, 48, 54];
 
-// Stands for an absent bit where numbers are compared.
-const HOLE: i16 = 1000;
-
 // What is in the lent pairs before a call.
-const BEFORE: i16 = 7;
-
-fn number(bit: SoftBit) -> i16 {
-    match bit {
-        SoftBit::Value(value) => value,
-        SoftBit::Absent => HOLE,
-    }
-}
+const BEFORE: SoftBit = SoftBit::Value(7);
 
 fn lent_pairs() -> [(SoftBit, SoftBit); 216] {
-    [(SoftBit::Value(BEFORE), SoftBit::Value(BEFORE)); 216]
+    [(BEFORE, BEFORE); 216]
+}
+
+fn heard_at(i: f32, q: f32) -> Carrier {
+    Carrier::Heard(Point { i, q })
 }
 
 fn all_at(i: f32, q: f32) -> [Carrier; 48] {
-    [Carrier::Heard(Point { i, q }); 48]
+    [heard_at(i, q); 48]
 }
 
-// How many of the bits have this number.
-fn count(pairs: &[(SoftBit, SoftBit)], wanted: i16) -> usize {
-    let mut found = 0usize;
-    for (a, b) in pairs {
-        if number(*a) == wanted {
-            found = found.saturating_add(1);
-        }
-        if number(*b) == wanted {
-            found = found.saturating_add(1);
-        }
-    }
-    found
+// How many of the bits are this one.
+fn count(pairs: &[(SoftBit, SoftBit)], wanted: SoftBit) -> usize {
+    let of_a = pairs.iter().filter(|(a, _)| *a == wanted).count();
+    let of_b = pairs.iter().filter(|(_, b)| *b == wanted).count();
+    of_a.saturating_add(of_b)
 }
 
-// The fault that refuses the carriers, or 0, and the carrier and axis that it names, or 48 and none.
+// The number of the fault that refuses the carriers, and the carrier and axis that it names; none where nothing is refused.
 fn refusal(
     rate: Rate,
     carriers: &[Carrier],
     pairs: &mut [(SoftBit, SoftBit); 216],
-) -> (u8, usize, char) {
-    match demodulate(rate, carriers, pairs) {
-        Ok(()) => (0, 48, '-'),
-        Err(fault) => match fault.carrier() {
-            Some((place, Axis::I)) => (fault.number(), place, 'I'),
-            Some((place, Axis::Q)) => (fault.number(), place, 'Q'),
-            None => (fault.number(), 48, '-'),
-        },
-    }
+) -> Option<(u8, Option<(usize, Axis)>)> {
+    demodulate(rate, carriers, pairs)
+        .err()
+        .map(|fault| (fault.number(), fault.carrier()))
 }
 
 // A coordinate on every carrier's I, and the value that BPSK makes of it.
@@ -97,30 +80,21 @@ fn coordinates(rt: HostRuntime) -> Result<(), Fail> {
     for (coordinate, value) in rows {
         let mut pairs = lent_pairs();
         demodulate(Rate::R6, &all_at(coordinate, 0.0), &mut pairs)?;
-        assert_eq!(rt; count(&pairs[0..24], value), 48);
+        assert_eq!(rt; count(&pairs[0..24], SoftBit::Value(value)), 48);
     }
     Ok(())
 }
 
 // How often the number stands in the row.
 fn times(row: &[i16], wanted: i16) -> usize {
-    let mut found = 0usize;
-    for value in row {
-        if *value == wanted {
-            found = found.saturating_add(1);
-        }
-    }
-    found
+    row.iter().filter(|value| **value == wanted).count()
 }
 
 // Whether the values of the row come for every coordinate, and no others: each coordinate has one of each.
 fn has_values(pairs: &[(SoftBit, SoftBit)], row: &[i16]) -> bool {
-    for value in row {
-        if count(pairs, *value) != times(row, *value).saturating_mul(96) {
-            return false;
-        }
-    }
-    true
+    row.iter().all(|value| {
+        count(pairs, SoftBit::Value(*value)) == times(row, *value).saturating_mul(96)
+    })
 }
 
 // Both coordinates of every carrier, and the two values that 16-QAM makes of each: the four levels, a nought, the ends.
@@ -164,7 +138,7 @@ fn values_of_64_qam(rt: HostRuntime) -> Result<(), Fail> {
         let mut pairs = lent_pairs();
         demodulate(Rate::R48, &all_at(coordinate, coordinate), &mut pairs)?;
         assert!(rt; has_values(&pairs[0..192], &[first, second, third]));
-        assert_eq!(rt; count(&pairs[0..192], HOLE), 96);
+        assert_eq!(rt; count(&pairs[0..192], SoftBit::Absent), 96);
     }
     Ok(())
 }
@@ -175,7 +149,7 @@ fn two_axes(rt: HostRuntime) -> Result<(), Fail> {
     let mut pairs = lent_pairs();
     demodulate(Rate::R24, &all_at(2.5, -0.75), &mut pairs)?;
     for value in [40, -8, -12, 20] {
-        assert_eq!(rt; count(&pairs[0..96], value), 48);
+        assert_eq!(rt; count(&pairs[0..96], SoftBit::Value(value)), 48);
     }
     Ok(())
 }
@@ -216,46 +190,52 @@ fn follow(
     Some(state)
 }
 
-// Strikes every carrier whose place is a multiple of `every`, or none where that is 0, and says how many they are.
-fn strike(carriers: &mut [Carrier; 48], every: usize) -> usize {
-    let mut struck = 0usize;
-    for place in 0..48usize {
-        if every != 0 && place % every == 0 {
-            carriers[place] = Carrier::Struck;
-            struck = struck.saturating_add(1);
-        }
+// Strikes every third carrier, or none, and says how many are left.
+fn thin(carriers: &mut [Carrier; 48], is_thinned: bool) -> usize {
+    if !is_thinned {
+        return 48;
     }
-    struck
+    for carrier in carriers.iter_mut().step_by(3) {
+        *carrier = Carrier::Struck;
+    }
+    32
 }
 
-// Follows the data symbols of a sending to its end, and says how many they were; none where a bit differs, or where not
-// exactly the bits of the struck carriers are absent.
-fn follow_sending(rate: Rate, sending: &mut Sending, bits: &[bool], every: usize) -> Option<usize> {
+// Demodulates a data symbol of which so many carriers are left, and follows it; none where not exactly the bits of the others are
+// absent, or a bit differs.
+fn follow_symbol(
+    rate: Rate,
+    bits: &[bool],
+    carriers: &[Carrier; 48],
+    left: usize,
+    state: State,
+) -> Option<State> {
     let n_dbps = rate.n_dbps();
-    let n_bpsc = rate.modulation().n_bpsc();
+    let mut pairs = lent_pairs();
+    demodulate(rate, carriers, &mut pairs).ok()?;
+    let heard = left.saturating_mul(rate.modulation().n_bpsc());
+    if count(&pairs[0..n_dbps], SoftBit::Absent) != (2 * n_dbps).saturating_sub(heard) {
+        return None;
+    }
+    follow(rate.code_rate(), bits, &pairs[0..n_dbps], state)
+}
+
+// Follows the data symbols of a sending to its end, and says how many they were; none where one is not heard as it was sent.
+fn follow_sending(
+    rate: Rate,
+    sending: &mut Sending,
+    bits: &[bool],
+    is_thinned: bool,
+) -> Option<usize> {
     let mut state = State::zeros();
     for k in 0..100usize {
         let mut carriers = [Carrier::Struck; 48];
-        let mut pairs = lent_pairs();
-        if sending.next(&mut carriers).is_err() {
+        if sending.next(&mut carriers) == Err(SendFault::Over) {
             return Some(k);
         }
-        let struck = strike(&mut carriers, every);
-        let start = k.saturating_mul(n_dbps);
-        let end = start.saturating_add(n_dbps);
-        if end > bits.len() || demodulate(rate, &carriers, &mut pairs).is_err() {
-            return None;
-        }
-        let heard = 48usize.saturating_sub(struck).saturating_mul(n_bpsc);
-        if count(&pairs[0..n_dbps], HOLE) != (2 * n_dbps).saturating_sub(heard) {
-            return None;
-        }
-        state = follow(
-            rate.code_rate(),
-            &bits[start..end],
-            &pairs[0..n_dbps],
-            state,
-        )?;
+        let left = thin(&mut carriers, is_thinned);
+        let part = bits.chunks_exact(rate.n_dbps()).nth(k)?;
+        state = follow_symbol(rate, part, &carriers, left, state)?;
     }
     None
 }
@@ -271,12 +251,12 @@ fn symbols_as_sent(rt: HostRuntime) -> Result<(), Fail> {
     for number in RATES {
         let rate = Rate::try_from(number)?;
         let header = Header { rate, length: 98 };
-        for every in [0usize, 3] {
+        for is_thinned in [false, true] {
             let mut carriers = [Carrier::Struck; 48];
             let mut pairs = lent_pairs();
             let mut sending = Sending::new(number, 93, bytes)?;
             sending.next(&mut carriers)?;
-            let _ = strike(&mut carriers, every);
+            let _ = thin(&mut carriers, is_thinned);
             demodulate(Rate::R6, &carriers, &mut pairs)?;
             assert_eq!(rt;
                 follow(
@@ -287,7 +267,7 @@ fn symbols_as_sent(rt: HostRuntime) -> Result<(), Fail> {
                 ),
                 Some(State::zeros())
             );
-            let followed = follow_sending(rate, &mut sending, &bits, every);
+            let followed = follow_sending(rate, &mut sending, &bits, is_thinned);
             assert_eq!(rt; followed, Some(header.symbol_count()));
         }
     }
@@ -296,20 +276,15 @@ fn symbols_as_sent(rt: HostRuntime) -> Result<(), Fail> {
 
 // Whether the second was heard as the first, but for holes exactly where the first has a value below nought.
 fn differ_in_holes(first: SoftBit, second: SoftBit) -> bool {
-    if number(first) < 0 {
-        number(second) == HOLE
-    } else {
-        number(second) == number(first)
+    match first {
+        SoftBit::Value(value) if value < 0 => second == SoftBit::Absent,
+        _ => second == first,
     }
 }
 
 fn all_differ_in_holes(first: &[(SoftBit, SoftBit)], second: &[(SoftBit, SoftBit)]) -> bool {
-    for ((a, b), (c, d)) in first.iter().zip(second.iter()) {
-        if !differ_in_holes(*a, *c) || !differ_in_holes(*b, *d) {
-            return false;
-        }
-    }
-    true
+    first.iter().zip(second).all(|((a, b), (c, d))| differ_in_holes(*a, *c)
+        && differ_in_holes(*b, *d))
 }
 
 // A struck carrier takes its own bits and no others with it: one carrier has zeros alone among carriers of ones alone, and is
@@ -332,21 +307,21 @@ fn holes(rt: HostRuntime) -> Result<(), Fail> {
             let mut carriers = all_at(ones, ones);
             let mut first = lent_pairs();
             let mut second = lent_pairs();
-            carriers[place] = Carrier::Heard(Point { i: zeros, q: zeros });
+            carriers[place] = heard_at(zeros, zeros);
             demodulate(rate, &carriers, &mut first)?;
             carriers[place] = Carrier::Struck;
             demodulate(rate, &carriers, &mut second)?;
             assert!(rt; all_differ_in_holes(&first, &second));
             assert_eq!(rt;
-                count(&second, HOLE),
-                count(&first, HOLE).saturating_add(rate.modulation().n_bpsc())
+                count(&second, SoftBit::Absent),
+                count(&first, SoftBit::Absent).saturating_add(rate.modulation().n_bpsc())
             );
             assert_eq!(rt; count(&second, BEFORE), 432 - 2 * n_dbps);
         }
     }
     let mut pairs = lent_pairs();
     demodulate(Rate::R54, &[Carrier::Struck; 48], &mut pairs)?;
-    assert_eq!(rt; count(&pairs, HOLE), 432);
+    assert_eq!(rt; count(&pairs, SoftBit::Absent), 432);
     Ok(())
 }
 
@@ -354,39 +329,45 @@ fn holes(rt: HostRuntime) -> Result<(), Fail> {
 #[test]
 fn refusals(rt: HostRuntime) {
     let mut pairs = lent_pairs();
-    let good = Carrier::Heard(Point { i: 1.0, q: 0.0 });
-    let bad_i = Carrier::Heard(Point {
-        i: f32::NAN,
-        q: 1.0,
-    });
-    let bad_q = Carrier::Heard(Point {
-        i: 1.0,
-        q: f32::NAN,
-    });
-    let both = Carrier::Heard(Point {
-        i: f32::NAN,
-        q: f32::NAN,
-    });
+    let good = heard_at(1.0, 0.0);
+    let bad_i = heard_at(f32::NAN, 1.0);
+    let bad_q = heard_at(1.0, f32::NAN);
+    let both = heard_at(f32::NAN, f32::NAN);
     let mut carriers = [good; 48];
     carriers[47] = bad_q;
-    assert_eq!(rt; refusal(Rate::R6, &carriers, &mut pairs), (7, 47, 'Q'));
+    assert_eq!(rt;
+        refusal(Rate::R6, &carriers, &mut pairs),
+        Some((7, Some((47, Axis::Q))))
+    );
     carriers[46] = both;
-    assert_eq!(rt; refusal(Rate::R54, &carriers, &mut pairs), (7, 46, 'I'));
+    assert_eq!(rt;
+        refusal(Rate::R54, &carriers, &mut pairs),
+        Some((7, Some((46, Axis::I))))
+    );
     carriers[0] = bad_q;
     carriers[1] = bad_i;
-    assert_eq!(rt; refusal(Rate::R36, &carriers, &mut pairs), (7, 0, 'Q'));
+    assert_eq!(rt;
+        refusal(Rate::R36, &carriers, &mut pairs),
+        Some((7, Some((0, Axis::Q))))
+    );
     carriers[0] = Carrier::Struck;
-    assert_eq!(rt; refusal(Rate::R12, &carriers, &mut pairs), (7, 1, 'I'));
+    assert_eq!(rt;
+        refusal(Rate::R12, &carriers, &mut pairs),
+        Some((7, Some((1, Axis::I))))
+    );
     assert_eq!(rt;
         refusal(Rate::R12, &carriers[0..47], &mut pairs),
-        (1, 48, '-')
+        Some((1, None))
     );
-    assert_eq!(rt; refusal(Rate::R12, &[bad_i; 49], &mut pairs), (1, 48, '-'));
-    assert_eq!(rt; refusal(Rate::R12, &[], &mut pairs), (1, 48, '-'));
+    assert_eq!(rt;
+        refusal(Rate::R12, &[bad_i; 49], &mut pairs),
+        Some((1, None))
+    );
+    assert_eq!(rt; refusal(Rate::R12, &[], &mut pairs), Some((1, None)));
     assert_eq!(rt; count(&pairs, BEFORE), 432);
-    assert_eq!(rt; refusal(Rate::R12, &[good; 48], &mut pairs), (0, 48, '-'));
+    assert_eq!(rt; refusal(Rate::R12, &[good; 48], &mut pairs), None);
     assert_eq!(rt;
         refusal(Rate::R6, &all_at(1.0, f32::INFINITY), &mut pairs),
-        (0, 48, '-')
+        None
     );
 }

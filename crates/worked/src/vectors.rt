@@ -18,17 +18,10 @@ const EMPTY: [Carrier; 48] = [Carrier::Struck; 48];
 
 // Whether the bits begin with those of a text of zeros and ones; blanks in the text are passed over.
 fn begin_with(bits: &[bool], text: &str) -> bool {
-    let mut at = 0usize;
-    for c in text.bytes() {
-        if c != b' ' {
-            match bits.get(at) {
-                Some(bit) if *bit == (c == b'1') => {}
-                _ => return false,
-            }
-            at = at.saturating_add(1);
-        }
-    }
-    true
+    text.bytes()
+        .filter(|digit| *digit != b' ')
+        .enumerate()
+        .all(|(n, digit)| bits.get(n).copied() == Some(digit == b'1'))
 }
 
 // The point that a carrier was heard at; none where it was struck.
@@ -36,13 +29,6 @@ fn heard(carriers: &[Carrier], n: usize) -> Option<Point> {
     match carriers.get(n) {
         Some(Carrier::Heard(point)) => Some(*point),
         _ => None,
-    }
-}
-
-fn is_at(carriers: &[Carrier], n: usize, i: f32, q: f32) -> bool {
-    match heard(carriers, n) {
-        Some(point) => point.i == i && point.q == q,
-        None => false,
     }
 }
 
@@ -65,9 +51,9 @@ fn signal_symbol(rt: HostRuntime) -> Result<(), Fail> {
     let mut sending = Sending::new(RATE, SEED, MESSAGE)?;
     sending.next(&mut carriers)?;
     assert!(rt; interleaved.len() == 48);
-    for (n, bit) in interleaved.bytes().enumerate() {
+    for (carrier, bit) in carriers.iter().zip(interleaved.bytes()) {
         let i = if bit == b'1' { 1.0 } else { -1.0 };
-        assert!(rt; is_at(&carriers, n, i, 0.0));
+        assert_eq!(rt; *carrier, Carrier::Heard(Point { i, q: 0.0 }));
     }
     Ok(())
 }
@@ -82,15 +68,14 @@ fn scrambled_bits_of_the_first_symbol(rt: HostRuntime) {
 }
 
 #[test]
-fn coded_signal(rt: HostRuntime) -> Result<(), Fail> {
+fn coded_signal(rt: HostRuntime) {
     let mut coded = [false; 48];
     let _ = encode(&HEADER.bits(), CodeRate::Half, State::zeros(), &mut coded);
     assert!(rt; begin_with(&coded, "110100011010000100000010001111100111000000000000"));
-    Ok(())
 }
 
 #[test]
-fn coded_bits_of_the_first_symbol(rt: HostRuntime) -> Result<(), Fail> {
+fn coded_bits_of_the_first_symbol(rt: HostRuntime) {
     let mut bits = [false; 144];
     let mut coded = [false; 192];
     let _ = fill_data_bits(MESSAGE, 93, 0, &mut bits);
@@ -98,7 +83,6 @@ fn coded_bits_of_the_first_symbol(rt: HostRuntime) -> Result<(), Fail> {
     let published =
         "0010 1011 0000 1000 1010 0001 1111 0000 1001 1101 1011 0101 1001 1010 0001 1101 0100 1010 1111 1011 1110 1000 1100 0010 1000 1111 1100 0000 1100 1000 0111 0011 1100 0000 0100 0011 1110 0000";
     assert!(rt; begin_with(&coded, published));
-    Ok(())
 }
 
 // The first data symbol as the standard prints it after the interleaver: four bits for each of the first 32 carriers.
@@ -146,8 +130,8 @@ fn points_of_the_first_symbol(rt: HostRuntime) -> Result<(), Fail> {
     let mut sending = Sending::new(RATE, SEED, MESSAGE)?;
     sending.next(&mut carriers)?;
     sending.next(&mut carriers)?;
-    for (n, (i, q)) in published.iter().enumerate() {
-        assert!(rt; is_at(&carriers, n, *i, *q));
+    for (carrier, (i, q)) in carriers.iter().zip(published) {
+        assert_eq!(rt; *carrier, Carrier::Heard(Point { i, q }));
     }
     Ok(())
 }

@@ -14,14 +14,14 @@ taken-a-requires g c =
     let marks = c.marks-a_sent in
     let period = g.met.P.Pattern.period in
     let r = room g.P.Pattern.code_rate c.loop-t.t g.P.Pattern.PAIRS (length c.args.sent.now) marks.result (omega arith) (c.requires.sent_len ∙ period.many) marks.ensures in
-    λ e. omega (arith, r, c.loop-t.invariant.0, bit_true marks.result.0 e)
+    λ e. omega (arith, r, c.loop-t.invariant.0, bit_true _ e)
 
 pub taken-b-requires : goal.taken-b-requires
 taken-b-requires g c =
     let marks = c.marks-a_sent in
     let period = g.met.P.Pattern.period in
     let r = room g.P.Pattern.code_rate c.loop-t.t g.P.Pattern.PAIRS (length c.args.sent.now) marks.result (omega arith) (c.requires.sent_len ∙ period.many) marks.ensures in
-    λ e. omega (arith, r, c.loop-t.invariant.0, c.taken-a.ensures.after, bit_true marks.result.1 e)
+    λ e. omega (arith, r, c.loop-t.invariant.0, c.taken-a.ensures.after, bit_true _ e)
 
 pub loop-t-preserved : goal.loop-t-preserved
 loop-t-preserved g c =

@@ -13,13 +13,13 @@ pub put-at-requires : goal.put-at-requires
 put-at-requires g c =
     let marks = c.marks-send_a in
     let r = room_for c.args.bits.now g.P.Pattern.code_rate c.args.state c.loop-t.t c.loop-t.held c.loop-t.at c.loop-t.out c.loop-t.invariant marks.result (omega arith) marks.ensures in
-    record { fits_if_sent = λ e. omega (arith, r, bit_true marks.result.0 e); within = omega (arith, r) }
+    record { fits_if_sent = λ e. omega (arith, r, bit_true _ e); within = omega (arith, r) }
 
 pub put-at-requires-in-loop-t : goal.put-at-requires-in-loop-t
 put-at-requires-in-loop-t g c =
     let marks = c.marks-send_a in
     let r = room_for c.args.bits.now g.P.Pattern.code_rate c.args.state c.loop-t.t c.loop-t.held c.loop-t.at c.loop-t.out c.loop-t.invariant marks.result (omega arith) marks.ensures in
-    record { fits_if_sent = λ e. omega (arith, r, c.put-at.ensures.moved, bit_true marks.result.1 e); within = omega (arith, r, c.put-at.ensures.moved) }
+    record { fits_if_sent = λ e. omega (arith, r, c.put-at.ensures.moved, bit_true _ e); within = omega (arith, r, c.put-at.ensures.moved) }
 
 pub loop-t-preserved : goal.loop-t-preserved
 loop-t-preserved g c =

@@ -5,5 +5,5 @@ use Rattle.frame.proofs.data.fill_data_bits.Given as goal
 
 abbrev pub invariant-loop-g : goal.invariant-loop-g
 invariant-loop-g l =
-    (l.now_at ≡ register_after l.register (4 * l.g)) ×
+    (l.here ≡ register_after l.register (4 * l.g)) ×
     ((k : ℕ) → k < 4 * l.g → get_or l.out k false ≡ scrambled_bit l.bytes (l.start + k) (key l.register k))

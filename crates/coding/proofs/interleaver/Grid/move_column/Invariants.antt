@@ -5,5 +5,5 @@ use Rattle.coding.proofs.interleaver.Grid.move_column.Given as goal
 
 abbrev pub invariant-loop-group : goal.invariant-loop-group
 invariant-loop-group g l =
-    Moved (flag g.row.BACK) g.row.COLUMNS g.row.TURN l.from l.initial.to (g.row.TURN * (g.row.GROUPS * l.column)) →
-    Moved (flag g.row.BACK) g.row.COLUMNS g.row.TURN l.from l.to (g.row.TURN * (g.row.GROUPS * l.column + l.group))
+    Moved (flag g.row.BACK) g.row.COLUMNS g.row.TURN l.self.from.now l.initial.to (g.row.TURN * (g.row.GROUPS * l.column)) →
+    Moved (flag g.row.BACK) g.row.COLUMNS g.row.TURN l.self.from.now l.to (g.row.TURN * (g.row.GROUPS * l.column + l.group))

@@ -1,51 +1,51 @@
 use Rattle.std.proofs.Common.{◌≡◌, ℕ, suc, ◌+◌, ◌*◌, ◌<◌, length, set, ap, subst, mul-suc, arith, rules}
 use Rattle.coding.specs.Interleaver.{origin, Moved}
-use Rattle.coding.proofs.Interleaving.{grid_over, within, read_at}
+use Rattle.coding.proofs.Interleaving.{within, read_at}
 use Rattle.coding.proofs.Deinterleaving.{flag, ends_in_group, moved_more}
 use Rattle.coding.proofs.interleaver.Grid.move_group.Goals as goal
 
 pub overflow_mul-first : goal.overflow_mul-first
-overflow_mul-first g c = let b = within g.row.COLUMNS g.row.TURN g.row.GROUPS (length c.args.from.now) c.args.column c.args.group (grid_over g.row.COLUMNS g.row.TURN g.row.GROUPS (length c.args.from.now) c.args.self.now.is_grid c.requires.from_len) c.requires.column_bound c.requires.group_bound in omega (arith, c.args.self.now.few, c.requires.from_len)
+overflow_mul-first g c = let b = within g.row.COLUMNS g.row.TURN g.row.GROUPS (length c.args.self.now.from.now) c.args.column c.args.group c.args.self.now.is_grid c.requires.column_bound c.requires.group_bound in omega (arith, c.args.self.now.below_65536)
 
 pub overflow_add-first : goal.overflow_add-first
-overflow_add-first g c = let b = within g.row.COLUMNS g.row.TURN g.row.GROUPS (length c.args.from.now) c.args.column c.args.group (grid_over g.row.COLUMNS g.row.TURN g.row.GROUPS (length c.args.from.now) c.args.self.now.is_grid c.requires.from_len) c.requires.column_bound c.requires.group_bound in omega (arith, c.args.self.now.few, c.requires.from_len)
+overflow_add-first g c = let b = within g.row.COLUMNS g.row.TURN g.row.GROUPS (length c.args.self.now.from.now) c.args.column c.args.group c.args.self.now.is_grid c.requires.column_bound c.requires.group_bound in omega (arith, c.args.self.now.below_65536)
 
 pub overflow_mul-first-2 : goal.overflow_mul-first-2
-overflow_mul-first-2 g c = let b = within g.row.COLUMNS g.row.TURN g.row.GROUPS (length c.args.from.now) c.args.column c.args.group (grid_over g.row.COLUMNS g.row.TURN g.row.GROUPS (length c.args.from.now) c.args.self.now.is_grid c.requires.from_len) c.requires.column_bound c.requires.group_bound in omega (arith, c.args.self.now.few, c.requires.from_len)
+overflow_mul-first-2 g c = let b = within g.row.COLUMNS g.row.TURN g.row.GROUPS (length c.args.self.now.from.now) c.args.column c.args.group c.args.self.now.is_grid c.requires.column_bound c.requires.group_bound in omega (arith, c.args.self.now.below_65536)
 
 pub overflow_add-first-in-loop-t : goal.overflow_add-first-in-loop-t
-overflow_add-first-in-loop-t g c = let b = within g.row.COLUMNS g.row.TURN g.row.GROUPS (length c.args.from.now) c.args.column c.args.group (grid_over g.row.COLUMNS g.row.TURN g.row.GROUPS (length c.args.from.now) c.args.self.now.is_grid c.requires.from_len) c.requires.column_bound c.requires.group_bound in omega (arith, c.args.self.now.few, c.requires.from_len)
+overflow_add-first-in-loop-t g c = let b = within g.row.COLUMNS g.row.TURN g.row.GROUPS (length c.args.self.now.from.now) c.args.column c.args.group c.args.self.now.is_grid c.requires.column_bound c.requires.group_bound in omega (arith, c.args.self.now.below_65536)
 
 pub bounds-from-origin : goal.bounds-from-origin
 bounds-from-origin g c =
-    let e = ends_in_group (flag g.row.BACK) g.row.COLUMNS g.row.TURN g.row.GROUPS (length c.args.from.now) c.args.column c.args.group c.loop-t.t c.source.result c.ends-origin.result.0 c.ends-origin.result.1
-    c.args.self.now.is_grid c.requires.from_len c.requires.column_bound c.requires.group_bound (omega arith) c.source.ensures.value c.ends-origin.ensures.origin c.ends-origin.ensures.target in
+    let e = ends_in_group (flag g.row.BACK) g.row.COLUMNS g.row.TURN g.row.GROUPS (length c.args.self.now.from.now) c.args.column c.args.group c.loop-t.t c.source.result c.ends-origin.result.0 c.ends-origin.result.1
+    c.args.self.now.is_grid c.requires.column_bound c.requires.group_bound (omega arith) c.source.ensures.value c.ends-origin.ensures.origin c.ends-origin.ensures.target in
     omega (arith, e.origin_fits)
 
 pub offset_bounds-from-origin : goal.offset_bounds-from-origin
 offset_bounds-from-origin g c =
-    let e = ends_in_group (flag g.row.BACK) g.row.COLUMNS g.row.TURN g.row.GROUPS (length c.args.from.now) c.args.column c.args.group c.loop-t.t c.source.result c.ends-origin.result.0 c.ends-origin.result.1
-    c.args.self.now.is_grid c.requires.from_len c.requires.column_bound c.requires.group_bound (omega arith) c.source.ensures.value c.ends-origin.ensures.origin c.ends-origin.ensures.target in
-    let h : c.ends-origin.result.0 < length c.args.from.now = e.origin_fits in search rules
+    let e = ends_in_group (flag g.row.BACK) g.row.COLUMNS g.row.TURN g.row.GROUPS (length c.args.self.now.from.now) c.args.column c.args.group c.loop-t.t c.source.result c.ends-origin.result.0 c.ends-origin.result.1
+    c.args.self.now.is_grid c.requires.column_bound c.requires.group_bound (omega arith) c.source.ensures.value c.ends-origin.ensures.origin c.ends-origin.ensures.target in
+    let h : c.ends-origin.result.0 < length c.args.self.now.from.now = e.origin_fits in search rules
 
 pub bounds-to-target : goal.bounds-to-target
 bounds-to-target g c =
-    let e = ends_in_group (flag g.row.BACK) g.row.COLUMNS g.row.TURN g.row.GROUPS (length c.args.from.now) c.args.column c.args.group c.loop-t.t c.source.result c.ends-origin.result.0 c.ends-origin.result.1
-    c.args.self.now.is_grid c.requires.from_len c.requires.column_bound c.requires.group_bound (omega arith) c.source.ensures.value c.ends-origin.ensures.origin c.ends-origin.ensures.target in
+    let e = ends_in_group (flag g.row.BACK) g.row.COLUMNS g.row.TURN g.row.GROUPS (length c.args.self.now.from.now) c.args.column c.args.group c.loop-t.t c.source.result c.ends-origin.result.0 c.ends-origin.result.1
+    c.args.self.now.is_grid c.requires.column_bound c.requires.group_bound (omega arith) c.source.ensures.value c.ends-origin.ensures.origin c.ends-origin.ensures.target in
     omega (arith, e.target_fits)
 
 pub offset_bounds-to-target : goal.offset_bounds-to-target
 offset_bounds-to-target g c =
-    let e = ends_in_group (flag g.row.BACK) g.row.COLUMNS g.row.TURN g.row.GROUPS (length c.args.from.now) c.args.column c.args.group c.loop-t.t c.source.result c.ends-origin.result.0 c.ends-origin.result.1
-    c.args.self.now.is_grid c.requires.from_len c.requires.column_bound c.requires.group_bound (omega arith) c.source.ensures.value c.ends-origin.ensures.origin c.ends-origin.ensures.target in
+    let e = ends_in_group (flag g.row.BACK) g.row.COLUMNS g.row.TURN g.row.GROUPS (length c.args.self.now.from.now) c.args.column c.args.group c.loop-t.t c.source.result c.ends-origin.result.0 c.ends-origin.result.1
+    c.args.self.now.is_grid c.requires.column_bound c.requires.group_bound (omega arith) c.source.ensures.value c.ends-origin.ensures.origin c.ends-origin.ensures.target in
     let h : c.ends-origin.result.1 < length c.loop-t.to = omega (arith, e.target_fits) in search rules
 
 pub loop-t-preserved : goal.loop-t-preserved
 loop-t-preserved g c before =
-    let e = ends_in_group (flag g.row.BACK) g.row.COLUMNS g.row.TURN g.row.GROUPS (length c.args.from.now) c.args.column c.args.group c.loop-t.t c.source.result c.ends-origin.result.0 c.ends-origin.result.1
-    c.args.self.now.is_grid c.requires.from_len c.requires.column_bound c.requires.group_bound (omega arith) c.source.ensures.value c.ends-origin.ensures.origin c.ends-origin.ensures.target in
-    let from = c.args.from.now in
-    let grid = grid_over g.row.COLUMNS g.row.TURN g.row.GROUPS (length from) c.args.self.now.is_grid c.requires.from_len in
+    let e = ends_in_group (flag g.row.BACK) g.row.COLUMNS g.row.TURN g.row.GROUPS (length c.args.self.now.from.now) c.args.column c.args.group c.loop-t.t c.source.result c.ends-origin.result.0 c.ends-origin.result.1
+    c.args.self.now.is_grid c.requires.column_bound c.requires.group_bound (omega arith) c.source.ensures.value c.ends-origin.ensures.origin c.ends-origin.ensures.target in
+    let from = c.args.self.now.from.now in
+    let grid = c.args.self.now.is_grid in
     let b = within g.row.COLUMNS g.row.TURN g.row.GROUPS (length from) c.args.column c.args.group grid c.requires.column_bound c.requires.group_bound in
     let first = g.row.TURN * (g.row.GROUPS * c.args.column + c.args.group) in
     let x = c.index-from-origin.result in
@@ -60,4 +60,4 @@ returns g c before =
     let q = g.row.GROUPS * c.args.column + c.args.group in
     let all : c.loop-t.t ≡ g.row.TURN = omega arith in
     let e : g.row.TURN * q + c.loop-t.t ≡ g.row.TURN * (q + 1) = let p : suc q ≡ q + 1 = omega arith in omega (arith, all, mul-suc g.row.TURN q, ap (λ (z : ℕ). g.row.TURN * z) p) in
-    subst (λ (m : ℕ). Moved (flag g.row.BACK) g.row.COLUMNS g.row.TURN c.args.from.now c.loop-t.to m) e (c.loop-t.invariant before)
+    subst (λ (m : ℕ). Moved (flag g.row.BACK) g.row.COLUMNS g.row.TURN c.args.self.now.from.now c.loop-t.to m) e (c.loop-t.invariant before)

@@ -1,5 +1,6 @@
-use Rattle.std.proofs.Common.{ℕ, ◌+◌, ◌-◌, ◌*◌, ap₂, arith}
-use Rattle.frame.specs.Data.{pads}
+use Rattle.std.proofs.Common.{ℕ, ◌-◌, ◌*◌, ap, ◌∙◌, ap₂, arith}
+use Rattle.frame.specs.Rate.{shape, n_dbps}
+use Rattle.frame.specs.Data.{symbols, pads}
 use Rattle.frame.proofs.DataBits.{Full, full}
 use Rattle.frame.proofs.header.Header.pad_count.Goals as goal
 
@@ -9,8 +10,10 @@ overflow_mul-result c =
     omega (arith, f.few)
 
 pub overflow_sub-result : goal.overflow_sub-result
-overflow_sub-result c = (full c.args.self.rate c.args.self.length c.symbol_count.result c.n_dbps.result c.symbol_count.ensures c.n_dbps.ensures).enough
+overflow_sub-result c =
+    let f = full c.args.self.rate c.args.self.length c.symbol_count.result c.n_dbps.result c.symbol_count.ensures c.n_dbps.ensures in
+    omega (arith, f.enough, c.steps.ensures)
 
 pub returns : goal.returns
 unfolding pads
-returns c = ap₂ (λ (n : ℕ) (d : ℕ). n * d - (22 + 8 * c.args.self.length)) c.symbol_count.ensures c.n_dbps.ensures
+returns c = ap₂ (λ (n : ℕ) (d : ℕ). n * d - c.steps.result) c.symbol_count.ensures c.n_dbps.ensures ∙ ap (λ (z : ℕ). symbols (shape c.args.self.rate) c.args.self.length * n_dbps (shape c.args.self.rate) - z) c.steps.ensures

@@ -1,0 +1,3 @@
+pub mod Generator
+pub mod Digest
+pub mod Soft
