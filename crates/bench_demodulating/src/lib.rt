@@ -10,7 +10,8 @@ use sweeping::soft::code;
 // The carriers of 64 symbols.
 const DRAWN: usize = 3072;
 
-// A carrier from two bytes: one in sixteen is struck, and the others lie between -8 and 8 on both axes.
+// A carrier from two bytes: one in sixteen is struck, and the others lie between -8 and 8 on both axes. (No `From`: pairs of
+// bytes and carriers are both types of other crates.)
 fn carrier_from(first: u8, second: u8) -> Carrier {
     if second % 16 == 0 {
         return Carrier::Struck;

@@ -29,7 +29,7 @@ fn send_all(sending: &mut Sending, symbol: &mut [Carrier]) -> f32 {
     sum
 }
 
-// Sends a whole frame and returns a sum over its carriers, or 0 where it is refused.
+// Sends a whole frame and returns a sum over its carriers, or 0 where it is refused: it is C that reads it.
 #[unsafe(no_mangle)]
 pub extern "C" fn bench_send(rate: u32, seed: u32, bytes: &[u8]) -> f32 {
     let mut symbol = [Carrier::Struck; 48];

@@ -1,18 +1,11 @@
 -- What a check that refuses nothing says of the carriers, and which carriers it never refuses.
-use Rattle.std.proofs.Common.{◌≡◌, ℕ, zero, suc, ◌+◌, ◌<◌, Bool, true, false, cond, eqb, List, [], ◌∷◌, length, get_or, Some, None, Option, refl, ap, ◌∙◌, arith, eq-eqb, eqb-true}
+use Rattle.std.proofs.Common.{◌≡◌, ℕ, zero, suc, ◌+◌, ◌<◌, Bool, true, false, cond, eqb, List, [], ◌∷◌, length, get_or, Some, None, Option, refl, ap, ◌∙◌, arith, eq-eqb}
 use Rattle.carriers.specs.declared.carrier.Carrier.{Carrier}
 use Rattle.carriers.specs.declared.fault.Axis.{Axis}
 use Rattle.carriers.specs.declared.carrier.Carrier.TheVariants.{Struck}
 use Rattle.carriers.specs.declared.fault.SymbolFault.TheVariants as SF
 use Rattle.carriers.specs.declared.fault.CarrierFault.{CarrierFault}
 use Rattle.carriers.specs.Fault.{bad_axis, named, first_bad, carrier_fault, of_carrier, symbol_fault}
-
-counted : (cs : List Carrier) (b : Bool) → eqb (length cs) 48 ≡ b → cond b (of_carrier (carrier_fault cs)) (Some (SF.Count (length cs))) ≡ None → length cs ≡ 48
-counted cs true is e = eqb-true (length cs) 48 is
-counted cs false is e = absurd (let z : ◌≡◌ {A = ℕ} 0 1 = cc in omega arith)
-
-pub are_48 : (cs : List Carrier) → symbol_fault cs ≡ None → length cs ≡ 48
-are_48 cs e = counted cs (eqb (length cs) 48) refl e
 
 none_bad_from : (k : ℕ) (cs : List Carrier) → ((n : ℕ) → n < length cs → bad_axis (get_or cs n Struck) ≡ None) → first_bad k cs ≡ None
 unfolding first_bad

@@ -7,8 +7,8 @@ pub struct Point {
     pub q: f32,
 }
 
-// A carrier is heard, as a point, or struck out by the front end: then nothing was heard there, which is not the same as zero. That
-// it is an enum of its own, and no `Option`, is a fixed form of the project.
+// A carrier is heard, as a point, or struck out by the front end: then nothing was heard there, which is not the same as zero.
+// That it is an enum of its own, and no `Option`, is a fixed form of the project.
 #[derive(Clone, Copy, Debug, PartialEq)]
 pub enum Carrier {
     Heard(Point),

@@ -54,7 +54,8 @@ pub fn quantise(coordinate: f32) -> i16
     whole_part(limited * 16.0)
 }
 
-// The values of one coordinate's bits. (Copied in from arrays by `copy_from_slice`, they take up to twice as long.)
+// The values of one coordinate's bits, which are what a modulation is. (Copied in from arrays by `copy_from_slice`, they take
+// up to twice as long.)
 fn demap_axis(modulation: Modulation, r: i16, out: &mut [SoftBit])
     requires r_bound { unsigned_abs r ≤ 128 }
     requires out_len { length out.old ≡ length (values modulation r) }
@@ -111,8 +112,8 @@ fn demap_carrier(modulation: Modulation, carrier: Carrier, out: &mut [SoftBit])
     }
 }
 
-// What carriers of BITS bits say of them. That they are numbers is known of a symbol as `check_symbol` gives it, but not by its type,
-// which only says how many they are: a type of its own would want a constructor for each caller. (Over a `zip` with `chunks_exact_mut` a proof knows nothing of what was written.)
+// What carriers of BITS bits say of them. (That they are numbers each function asks: a type that says so would have to hold the
+// carriers, and the lent slice does. Over a `zip` with `chunks_exact_mut` a proof knows nothing of what was written.)
 fn demap_carriers<const BITS: usize>(
     modulation: Modulation,
     carriers: &[Carrier],

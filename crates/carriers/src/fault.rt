@@ -30,6 +30,7 @@ pub enum SymbolFault {
     Carrier(CarrierFault),
 }
 
+// Printing and conversion are written by hand: of derived ones no contract says what they give.
 impl fmt::Display for Axis {
     ghost output = { λ axis. Some (axis_text axis) };
 

@@ -17,7 +17,7 @@ fn level(bits: &[bool]) -> f32
 {
     let levels: [i8; 16] = [0, 0, -1, 1, -3, -1, 3, 1, -7, -5, -1, -3, 7, 5, 1, 3];
     let mut place = 1;
-    // no `fold`: that the place stays within the table is an invariant of the loop
+    // with `fold` nothing says that the place stays in the table
     for bit in bits {
         place = 2 * place + usize::from(*bit);
     }

@@ -48,21 +48,26 @@ fn read_order(words: &[String]) -> Result<Order<'_>, Failure> {
     let [rate_word, seed_word, input, output] = words else {
         return Err(Misuse::SendCount(words.len()).into());
     };
-    let Some(rate) = parse_number(rate_word.as_str()) else {
-        return Err(Misuse::Rate(rate_word.clone()?).into());
-    };
-    let Some(seed) = parse_number(seed_word.as_str()) else {
-        return Err(Misuse::Seed(seed_word.clone()?).into());
-    };
     Ok(Order {
-        rate,
-        seed,
+        rate: number(rate_word, Misuse::Rate)?,
+        seed: number(seed_word, Misuse::Seed)?,
         input: input.as_str(),
         output: output.as_str(),
     })
 }
 
-// A number too large for a u32 is read as the largest, which is as far outside what a sending takes.
+// The number that a word stands for, or the misuse that it is.
+fn number<F: FnOnce(String) -> Misuse>(word: &String, misuse: F) -> Result<u32, Failure>
+    requires { F.IsAlwaysCallable misuse }
+{
+    match parse_number(word.as_str()) {
+        Some(number) => Ok(number),
+        None => Err(misuse(word.clone()?).into()),
+    }
+}
+
+// A number too large for a u32 is read as the largest, which is as far outside what a sending takes. (`parse` alone would take
+// `+6`.)
 fn parse_number(word: &str) -> Option<u32> {
     if word.is_empty() || !word.bytes().all(|byte| byte.is_ascii_digit()) {
         return None;

@@ -5,7 +5,7 @@ use std::fs::File;
 use std::io::Write;
 use std::{fmt, fs};
 
-// The carriers of a symbol with single spaces between them.
+// The carriers of a symbol with single spaces between them: a format of its own, so it is written by hand.
 #[derive(Clone, Copy)]
 pub struct Line<'a>(pub &'a [Carrier]);
 

@@ -1,5 +1,5 @@
 -- One bit more through the coder and the puncturing.
-use Rattle.std.proofs.Common.{◌≡◌, ℕ, ◌+◌, ◌-◌, ◌*◌, ◌/◌, ◌%◌, ◌<◌, ◌≤◌, Bool, false, cond, List, [], ◌∷◌, ◌++◌, length, get_or, take, drop, sym, refl, ap, ◌∙◌, subst, ap₂, add-mul, zero-mul, mul_comm, arith}
+use Rattle.std.proofs.Common.{◌≡◌, ℕ, ◌+◌, ◌-◌, ◌*◌, ◌/◌, ◌%◌, ◌<◌, ◌≤◌, Bool, false, cond, List, [], ◌∷◌, ◌++◌, length, get_or, take, drop, sym, refl, ap, ◌∙◌, subst, ap₂, add-mul, mul_comm, arith}
 use native.Mathlib.Nat.{div-add-mod, mul-mod_left}
 use Rattle.std.proofs.Math.Seq.{take-add}
 use borrow.Rule.Slice.PartMut.{mid_of, put_mid}
@@ -33,7 +33,7 @@ punctured_more c s held i bits xs ys zs pair send h e p k y z x =
     ∙ ap (punctured c) (sym (coded_append s front (b ∷ [])))
     ∙ ap (λ (q : List Bool). punctured c (coded_from s q)) (sym (take_more bits i false h))
 
--- one bit more, and all of them
+-- one bit more
 module _ (bits : List Bool) (c : CodeRate) (before i held place : ℕ) (out : List Bool) (u : Underway bits c before i held place out) where
   pub underway_more : (at at' held' : ℕ) (mid out' : List Bool) (pair send : Bool × Bool) → i < length bits → send ≡ sent_of c i → pair ≡ outputs held (get_or bits i false) →
       Put out place send.0 pair.0 at mid → Put mid at send.1 pair.1 at' out' → length out' ≡ length out →
@@ -50,15 +50,6 @@ module _ (bits : List Bool) (c : CodeRate) (before i held place : ℕ) (out : Li
   -- both bits of the next pair find room, if they are sent
   pub room_for : (send : Bool × Bool) → i < length bits → send ≡ sent_of c i → place + (bit_of send.0 + bit_of send.1) ≤ length out
   room_for send h k = omega (arith, room c i (length bits) (length out) send h u.room k, u.counted)
-
-  pub all_encoded : i ≡ length bits → Encoded bits c before held out
-  all_encoded e =
-      let whole : take i bits ≡ bits = take_all i bits (omega arith) in
-      let full : place ≡ length out = u.counted ∙ ap (sent_count c) e ∙ sym u.room in
-      record {
-        left = u.left ∙ ap (state_from before) whole;
-        written = sym (take_all place out (omega arith)) ∙ u.written ∙ ap (λ (q : List Bool). punctured c (coded_from before q)) whole;
-      }
 
 pub underway_none : (bits : List Bool) (c : CodeRate) (before : ℕ) (out : List Bool) → length out ≡ sent_count c (length bits) → Underway bits c before 0 before 0 out
 underway_none bits c before out e = record { room = e; counted = sym (count_none c); left = refl; written = refl }
@@ -100,12 +91,7 @@ encoded_period c pairs sent p bits out part before held after k width h room lon
     (subst (λ (z : List Bool). Encoded (take (k * pairs) bits ++ mid_of (k * pairs) (k * pairs + pairs - k * pairs) bits) c before after z) (sym back)
     (encoded_more c before held after (take (k * pairs) bits) (mid_of (k * pairs) (k * pairs + pairs - k * pairs) bits) (take (k * sent) out) part whole first next))
 
--- no period yet, and all of them
-pub encoded_none : (c : CodeRate) (pairs sent before : ℕ) (bits out : List Bool) → Encoded (take (0 * pairs) bits) c before before (take (0 * sent) out)
-encoded_none c pairs sent before bits out =
-    subst (λ (z : ℕ). Encoded (take z bits) c before before (take (0 * sent) out)) (sym (zero-mul pairs))
-    (subst (λ (z : ℕ). Encoded [] c before before (take z out)) (sym (zero-mul sent)) (record { left = refl; written = refl }))
-
+-- all of them
 pub encoded_whole : (c : CodeRate) (pairs sent k before after : ℕ) → Period c pairs sent → (bits out : List Bool) → length bits % pairs ≡ 0 → k ≡ length bits / pairs →
     length out ≡ sent_count c (length bits) → Encoded (take (k * pairs) bits) c before after (take (k * sent) out) → Encoded bits c before after out
 encoded_whole c pairs sent k before after p bits out whole all room e =

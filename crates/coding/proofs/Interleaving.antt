@@ -1,6 +1,6 @@
 -- The interleaver's permutations and their inverses, over every grid: s is the turn, t the groups of a column.
 use Rattle.std.proofs.Common.{◌≡◌, ℕ, suc, ◌+◌, ◌-◌, ◌*◌, ◌/◌, ◌%◌, ◌<◌, ◌≤◌, List, length, get_or, sym, refl, ap, ◌∙◌, subst, ap₂, add_assoc, mul-le-mul_right, mod-eq_of_lt, mul_assoc, mul_comm, add-mul, mul-le-mul_left, mul-pos, mul-suc, mul-add, sub-add_cancel, mul_left_comm, arith}
-use native.Mathlib.Nat.{add-mod-mod, mul-add-div, mod-eq-sub-mod, mul-div-mul_left, mul-div_cancel_left, div-div-eq-div-mul, mod-add-mod, mul-add-mod_self_left, add-mul-mod_self_left, div-add-mod}
+use native.Mathlib.Nat.{add-mod-mod, mul-add-div, mul-div-mul_left, mul-div_cancel_left, div-div-eq-div-mul, mod-add-mod, mul-add-mod_self_left, add-mul-mod_self_left, div-add-mod}
 use Rattle.std.proofs.lemmas.List.FromFn.{fill_by_all, get_or-map-range_with_len}
 use Rattle.std.proofs.lemmas.List.{ext_get_or, get_or_read}
 use Rattle.std.proofs.lemmas.Nat.{div_below, div-mul-add, mul-add-lt, mod_below}
@@ -216,16 +216,6 @@ module _ (columns s t n column group i : ℕ) (g : Grid columns s t n) (hc : col
   source_fits =
       let p = place_fits columns s t n column row g hc row_fits in
       (undone columns s t n g).source_within (s * (t * column + group) + i) (omega (arith, first, p))
-
-pub scaled : (a x : ℕ) → 0 < a → x ≤ a * x
-scaled a x h = omega (arith, mul-le-mul_right {m = 1} {n = a} x h)
-
--- below the group, or once past it
-pub turned_below : (s x : ℕ) → x < s → x % s ≡ x
-turned_below s x h = mod-eq_of_lt h
-
-pub turned_past : (s x : ℕ) → s ≤ x → x < s + s → x % s ≡ x - s
-turned_past s x h l = mod-eq-sub-mod h ∙ mod-eq_of_lt (omega arith)
 
 -- a group lies within the places
 pub record Within (columns s t n column group : ℕ) : Type 0 where

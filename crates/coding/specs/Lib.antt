@@ -4,3 +4,4 @@ pub mod Periods
 pub mod Depuncturing
 pub mod Encoding
 pub mod Interleaver
+pub mod Texts

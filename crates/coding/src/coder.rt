@@ -1,6 +1,7 @@
 // The convolutional coder, one bit at a time.
-ghost use Rattle.std.specs.Prelude.{◌≡◌};
+ghost use Rattle.std.specs.Prelude.{◌≡◌, Some};
 ghost use Rattle.coding.specs.Coder.{next_state, outputs as outputs_of, state_or_none};
+ghost use Rattle.coding.specs.Texts.{no_state_text};
 
 use std::error::Error;
 use std::fmt;
@@ -32,6 +33,8 @@ pub struct NoState {
 }
 
 impl fmt::Display for NoState {
+    ghost output = { λ none. Some (no_state_text none) };
+
     fn fmt<W: fmt::Write>(&self, f: &mut fmt::Formatter<W>) -> fmt::Result {
         let number = self.number;
         write!(f, "{number} is no state of the coder: it is not below 64")

@@ -1,4 +1,5 @@
 // What was received of a symbol's coded bits, back in pairs: one pair for each data bit, the stolen ones put back as holes.
+// What was sent, the hole and the memory are what each function is about, and are not made one.
 ghost use Rattle.std.specs.Prelude.{◌≡◌, ◌+◌, ◌%◌, ◌<◌, true, cond, length, slice_index_or};
 ghost use Rattle.frame.specs.Bits.{bit_of};
 ghost use Rattle.coding.specs.Puncturing.{pattern, sent_count};
@@ -7,14 +8,15 @@ ghost use Rattle.coding.specs.Depuncturing.{depunctured, DepuncturingUndoes, Res
 use crate::puncturing::{Half, Pattern, ThreeQuarters, TwoThirds};
 use frame::rate::CodeRate;
 
-// Everything that was sent comes back, and all else as a hole, whatever the pairs hold: the coder's outputs, or what was heard of
-// them. It computes nothing: its contract is the law.
+// Everything that was sent comes back, and all else as a hole, whatever the pairs hold: the coder's outputs, or what was heard
+// of them. It computes nothing: its contract is the law.
 pub fn puncturing_is_undone<T>()
     ensures { DepuncturingUndoes T }
 {}
 
-// The next of `sent` if one is sent here, and else a hole; and the place after it. (An iterator would say no more than the place:
-// that it ends just where the pattern does is what has to be known either way.)
+// The next of `sent` if one is sent here, and else a hole; and the place after it. (An iterator would say no more than the
+// place: that it ends just where the pattern does is what has to be known either way. Nor would an `Option` for the mark: it is
+// the pattern's, and asks for no value.)
 fn taken<T: Copy>(sent: &[T], at: usize, is_sent: bool, hole: T) -> (T, usize)
     requires { is_sent ≡ true → at < length sent.now }
     ensures bit { result.0 ≡ cond is_sent (slice_index_or sent.now at hole) hole }

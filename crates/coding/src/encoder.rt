@@ -1,4 +1,5 @@
-// A row of bits through the coder, punctured: the same for the header and for the data.
+// A row of bits through the coder, punctured: the same for the header and for the data. Bits, state and memory are what each
+// function is about, and are not made one.
 ghost use Rattle.std.specs.Prelude.{◌≡◌, ◌%◌, length};
 ghost use Rattle.coding.specs.Puncturing.{pattern, sent_count};
 ghost use Rattle.coding.specs.Encoding.{Encoded};

@@ -1,4 +1,5 @@
-// The interleaver of a symbol, over columns and widths: one walk for every modulation, there and back.
+// The interleaver of a symbol, over columns and widths: one walk for every modulation, there and back. That both slices are as
+// long, and how long, stands in each contract, as does a column's bound: no type says it of a slice that is lent to be written.
 ghost use Rattle.std.specs.Prelude.{◌≡◌, ◌+◌, ◌*◌, ◌%◌, ◌<◌, length, if◌then◌else◌};
 ghost use Rattle.coding.specs.Interleaver.{Grid as IsGrid, source, interleaved, deinterleaved, turn_size, Undone, ComesBack, Placed, Moved};
 ghost use Rattle.frame.specs.Rate.{n_bpsc};
@@ -15,8 +16,8 @@ pub fn interleaved_lists_come_back<T>()
     ensures { ComesBack T }
 {}
 
-// The bits of a symbol over its places: COLUMNS columns, each of GROUPS groups of TURN places. That these make a grid of them is
-// known of every value.
+// The bits of a symbol over its places: COLUMNS columns, each of GROUPS groups of TURN places. That these make a grid of them
+// is known of every value.
 #[derive(Drop)]
 struct Grid<'a, T, const COLUMNS: usize, const TURN: usize, const GROUPS: usize> {
     from: &'a [T],
@@ -43,8 +44,8 @@ impl<'a, T: Copy, const COLUMNS: usize, const TURN: usize, const GROUPS: usize> 
         COLUMNS * (TURN * group + turned) + column
     }
 
-    // Moves the bits of one group: where the places before it are done, so are its own. It goes by the coordinates of the grid, since
-    // one of both slices is met out of order.
+    // Moves the bits of one group: where the places before it are done, so are its own. It goes by the coordinates of the grid,
+    // since one of both slices is met out of order.
     fn move_group<const BACK: bool>(&self, column: usize, group: usize, to: &mut [T])
         requires to_len { length to.old ≡ length self.now.from.now }
         requires column_bound { column < COLUMNS }
@@ -59,7 +60,7 @@ impl<'a, T: Copy, const COLUMNS: usize, const TURN: usize, const GROUPS: usize> 
         }
     }
 
-    // Moves the bits of one column in the same way.
+    // Moves the bits of one column in the same way. (The three levels are functions, since a function here has one loop.)
     fn move_column<const BACK: bool>(&self, column: usize, to: &mut [T])
         requires to_len { length to.old ≡ length self.now.from.now }
         requires column_bound { column < COLUMNS }
@@ -89,8 +90,8 @@ fn within_group<const TURN: usize>(sum: usize) -> usize
     if sum < TURN { sum } else { sum - TURN }
 }
 
-// From where to where a bit is moved: from its source to its place, or back. (A flag, and no type for each way: all that it decides
-// is this pair.)
+// From where to where a bit is moved: from its source to its place, or back. (A flag, and no type for each way: all that it
+// decides is this pair.)
 fn ends<const BACK: bool>(place: usize, source: usize) -> (usize, usize)
     ensures origin { result.0 ≡ (if BACK then place else source) }
     ensures target { result.1 ≡ (if BACK then source else place) }

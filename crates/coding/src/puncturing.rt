@@ -87,7 +87,8 @@ impl Pattern for ThreeQuarters {
 }
 
 // Writes the bit at `at` if it is sent, and says where the next one goes. (Not by `iter_mut`'s `next`: nothing is known of the
-// elements after that.)
+// elements after that. The mark is the pattern's and the bit the coder's; as an `Option` they would be made one to be taken
+// apart here.)
 pub(crate) fn put(out: &mut [bool], at: usize, send: bool, bit: bool) -> usize
     requires fits_if_sent { send ≡ true → at < length out.old }
     requires within { at ≤ length out.old }

@@ -1,35 +1,10 @@
 -- The header, part by part.
-use Rattle.std.proofs.Common.{◌≡◌, ℕ, Bool, false, cond, List, ◌++◌, map, length, get_or, take, drop, set, replicate, refl, ap, ap₂, ◌∙◌}
-use borrow.Rule.Slice.PartMut.{put_mid}
+use Rattle.std.proofs.Common.{◌≡◌, ℕ, Bool, false, cond, List, map, length, get_or, take, drop, refl}
 use Rattle.std.specs.List.{range_with_len}
 use Rattle.frame.specs.declared.rate.Rate.{Rate}
 use Rattle.frame.specs.declared.rate.Rate.TheVariants as R
-use Rattle.frame.specs.Rate.{row}
-use Rattle.frame.specs.Bits.{bit_at, odd}
+use Rattle.frame.specs.Bits.{bit_at}
 use Rattle.frame.specs.Header.{header}
-
--- the rate bits and the LENGTH bits written over zeros, and the parity bit set behind those
-abbrev written : List Bool → List Bool → List Bool
-written bits lengths = put_mid 5 12 (bits ++ replicate 20 false) lengths
-
-abbrev known : ℕ → List Bool
-known len = map (bit_at len) (range_with_len 0 12)
-
--- with the right bits and parity this is the header, at each rate
-zeros_over : (r : Rate) (len : ℕ) → set (written (row r).bits (known len)) 17 (odd (take 17 (written (row r).bits (known len)))) ≡ header r len
-zeros_over R.R6 len = refl
-zeros_over R.R9 len = refl
-zeros_over R.R12 len = refl
-zeros_over R.R18 len = refl
-zeros_over R.R24 len = refl
-zeros_over R.R36 len = refl
-zeros_over R.R48 len = refl
-zeros_over R.R54 len = refl
-
-pub header_is : (r : Rate) (len : ℕ) (bits lengths : List Bool) (parity : Bool) →
-    bits ≡ (row r).bits → lengths ≡ known len → parity ≡ odd (take 17 (written bits lengths)) → set (written bits lengths) 17 parity ≡ header r len
-header_is r len bits lengths parity e f p =
-    ap (set (written bits lengths) 17) p ∙ ap₂ (λ (x : List Bool) (y : List Bool). set (written x y) 17 (odd (take 17 (written x y)))) e f ∙ zeros_over r len
 
 -- the rate by its first three bits: the fourth is a one at all rates
 pub read_rate : List Bool → Rate

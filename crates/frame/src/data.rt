@@ -20,8 +20,8 @@ fn four_plain_bits(bytes: &[u8], n: usize) -> u8
     }
 }
 
-// The four key bits over them, the first as the highest bit: none in the tail. (Each test returns at once: after an `||` a proof
-// would not know which of both held.)
+// The four key bits over them, the first as the highest bit: none in the tail. (Each test returns at once: after an `||` a
+// proof would not know which of both held.)
 fn four_masked(length: usize, n: usize, key: u8) -> u8
     requires { n % 4 ≡ 0 }
     ensures { Masked length n key result }

@@ -46,8 +46,8 @@ fn demodulate_coded<const N: usize>(
     demodulate_over(mode, carriers, &mut placed, &mut coded, pairs)
 }
 
-// Writes what 48 carriers say of each data bit's pair of coded bits. Each modulation names the length of its memory, since none can
-// be computed from it in a type.
+// Writes what 48 carriers say of each data bit's pair of coded bits. Each modulation names the length of its memory, since none
+// can be computed from it in a type.
 fn demodulate_symbol(mode: Mode, carriers: &[Carrier; CARRIERS], pairs: &mut [(SoftBit, SoftBit)])
     requires { Ready mode carriers.now (length pairs.old) }
     ensures { pairs.new ≡ demodulated (shaped mode) carriers.now }

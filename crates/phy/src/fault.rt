@@ -25,6 +25,7 @@ pub enum SendFault {
     Carriers(usize),
 }
 
+// Conversion and printing are written by hand: of derived ones no contract says what they give.
 impl From<UnknownRate> for SendFault {
     ghost from_gives = { λ e r. r ≡ SE.Rate e.number };
 

@@ -92,6 +92,7 @@ impl<'a> Sending<'a> {
     {
         let n_dbps = self.header.rate.n_dbps();
         let first = usize::from(self.written - 1) * n_dbps;
+        // the longest symbol's length serves all, since none can be computed from a rate in a type
         let mut bits = [false; 216];
         let bits = &mut bits[..n_dbps];
         let register = fill_data_bits(self.bytes, self.register, first, bits);

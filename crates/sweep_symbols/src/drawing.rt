@@ -104,7 +104,8 @@ impl Flaw {
     }
 }
 
-// One carrier more than a symbol has, the last one struck.
+// One carrier more than a symbol has, the last one struck; the flaw says how many of them count. (An array that is cut, since
+// drawing asks for no memory.)
 #[derive(Clone, Copy)]
 pub struct Symbol {
     carriers: [Carrier; 49],
@@ -115,8 +116,8 @@ impl Symbol {
     pub fn draw(generator: &mut Generator) -> Symbol {
         let flaw = Flaw::draw(generator);
         let mut carriers = [Carrier::Struck; 49];
-        for place in &mut carriers[0..48] {
-            *place = carrier(generator);
+        for slot in &mut carriers[0..48] {
+            *slot = carrier(generator);
         }
         if flaw.is_spoilt {
             spoil(generator, &mut carriers);

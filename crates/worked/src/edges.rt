@@ -6,7 +6,7 @@ use phy::fault::SendFault;
 use phy::sending::Sending;
 use std::test::Fail;
 
-const EMPTY: [Carrier; 48] = [Carrier::Struck; 48];
+pub const EMPTY: [Carrier; 48] = [Carrier::Struck; 48];
 
 // The number of the fault that refuses a sending, if one does.
 fn making_fault(rate: u32, seed: u32, bytes: &[u8]) -> Option<u8> {

@@ -201,8 +201,8 @@ fn thin(carriers: &mut [Carrier; 48], is_thinned: bool) -> usize {
     32
 }
 
-// Demodulates a data symbol of which so many carriers are left, and follows it; none where not exactly the bits of the others are
-// absent, or a bit differs.
+// Demodulates a data symbol of which so many carriers are left, and follows it; none where not exactly the bits of the others
+// are absent, or a bit differs.
 fn follow_symbol(
     rate: Rate,
     bits: &[bool],
@@ -303,6 +303,7 @@ fn holes(rt: HostRuntime) -> Result<(), Fail> {
     ];
     for (rate, ones, zeros) in rows {
         let n_dbps = rate.n_dbps();
+        // by its place, since it is written twice
         for place in 0..48usize {
             let mut carriers = all_at(ones, ones);
             let mut first = lent_pairs();

@@ -1,5 +1,6 @@
 // The example of Annex G: what is sent against what the standard prints, as far as that was remembered.
 use crate::annex_g::{MESSAGE, RATE, SEED};
+use crate::edges::EMPTY;
 use carriers::carrier::{Carrier, Point};
 use coding::coder::State;
 use coding::encoder::encode;
@@ -13,8 +14,6 @@ const HEADER: Header = Header {
     rate: Rate::R36,
     length: 100,
 };
-
-const EMPTY: [Carrier; 48] = [Carrier::Struck; 48];
 
 // Whether the bits begin with those of a text of zeros and ones; blanks in the text are passed over.
 fn begin_with(bits: &[bool], text: &str) -> bool {

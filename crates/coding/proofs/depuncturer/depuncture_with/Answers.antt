@@ -1,13 +1,10 @@
-use Rattle.std.proofs.Common.{◌≡◌, ℕ, ◌+◌, ◌*◌, ◌/◌, ◌%◌, ◌<◌, ◌≤◌, length, ap, ◌∙◌, subst, mul_comm, zero-mul, arith, rules}
+use Rattle.std.proofs.Common.{◌≡◌, ℕ, ◌+◌, ◌*◌, ◌/◌, ◌%◌, ◌<◌, ◌≤◌, length, ap, ◌∙◌, subst, mul_comm, arith, rules}
 use native.Mathlib.Nat.{div-add-mod}
 use Rattle.frame.proofs.Parts.{length_part}
 use Rattle.coding.specs.Depuncturing.{Restored}
 use Rattle.coding.proofs.Punctured.{period_read, period_within, periods_fit}
 use Rattle.coding.proofs.Depuncturing.{restored_period, restored_all}
 use Rattle.coding.proofs.depuncturer.depuncture_with.Goals as goal
-
-pub loop-k-init : goal.loop-k-init
-loop-k-init g c i d h = absurd (omega (arith, zero-mul c.PAIRS-in_pairs.result))
 
 pub overflow_mul-period : goal.overflow_mul-period
 overflow_mul-period g c =

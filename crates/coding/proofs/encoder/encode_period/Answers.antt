@@ -1,7 +1,7 @@
 use Rattle.std.proofs.Common.{arith, ap, ◌∙◌}
 use Rattle.frame.proofs.Bits.{bit_true}
 use Rattle.coding.specs.Puncturing.{sent_count}
-use Rattle.coding.proofs.Encoding.{underway_none, underway_more, room_for, all_encoded}
+use Rattle.coding.proofs.Encoding.{underway_none, underway_more, room_for}
 use Rattle.coding.proofs.encoder.encode_period.Goals as goal
 
 pub loop-t-init : goal.loop-t-init
@@ -26,7 +26,3 @@ loop-t-preserved g c =
     underway_more c.args.bits.now g.P.Pattern.code_rate c.args.state c.loop-t.t c.loop-t.held c.loop-t.at c.loop-t.out c.loop-t.invariant
     c.put-at.result c.put-at-in-loop-t.result c.next-held.result c.put-at.new.out c.put-at-in-loop-t.new.out c.outputs-a.result c.marks-send_a.result
     (omega arith) c.marks-send_a.ensures c.outputs-a.ensures c.put-at.ensures c.put-at-in-loop-t.ensures (omega arith) c.next-held.ensures
-
-pub returns : goal.returns
-returns g c =
-    all_encoded c.args.bits.now g.P.Pattern.code_rate c.args.state c.loop-t.t c.loop-t.held c.loop-t.at c.loop-t.out c.loop-t.invariant (omega arith)

@@ -1,11 +1,8 @@
 use Rattle.std.proofs.Common.{ℕ, ◌+◌, ◌*◌, ◌%◌, ◌≤◌, length, ap, ◌∙◌, arith, rules}
 use Rattle.frame.proofs.Parts.{length_part}
 use Rattle.coding.proofs.Punctured.{period_read, period_within, periods_fit}
-use Rattle.coding.proofs.Encoding.{encoded_none, encoded_period, encoded_whole}
+use Rattle.coding.proofs.Encoding.{encoded_period, encoded_whole}
 use Rattle.coding.proofs.encoder.encode_with.Goals as goal
-
-pub loop-k-init : goal.loop-k-init
-loop-k-init g c = encoded_none g.P.Pattern.code_rate c.PAIRS-pairs.result c.SENT-sent.result c.args.state c.args.bits.now c.args.out.now
 
 pub overflow_mul-k : goal.overflow_mul-k
 overflow_mul-k g c =

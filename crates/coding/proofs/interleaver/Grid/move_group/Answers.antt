@@ -1,20 +1,8 @@
-use Rattle.std.proofs.Common.{◌≡◌, ℕ, suc, ◌+◌, ◌*◌, ◌<◌, length, set, ap, subst, mul-suc, arith, rules}
+use Rattle.std.proofs.Common.{◌≡◌, ℕ, ◌+◌, ◌*◌, ◌<◌, length, set, subst, arith, rules}
 use Rattle.coding.specs.Interleaver.{origin, Moved}
 use Rattle.coding.proofs.Interleaving.{within, read_at}
 use Rattle.coding.proofs.Deinterleaving.{flag, ends_in_group, moved_more}
 use Rattle.coding.proofs.interleaver.Grid.move_group.Goals as goal
-
-pub overflow_mul-first : goal.overflow_mul-first
-overflow_mul-first g c = let b = within g.row.COLUMNS g.row.TURN g.row.GROUPS (length c.args.self.now.from.now) c.args.column c.args.group c.args.self.now.is_grid c.requires.column_bound c.requires.group_bound in omega (arith, c.args.self.now.below_65536)
-
-pub overflow_add-first : goal.overflow_add-first
-overflow_add-first g c = let b = within g.row.COLUMNS g.row.TURN g.row.GROUPS (length c.args.self.now.from.now) c.args.column c.args.group c.args.self.now.is_grid c.requires.column_bound c.requires.group_bound in omega (arith, c.args.self.now.below_65536)
-
-pub overflow_mul-first-2 : goal.overflow_mul-first-2
-overflow_mul-first-2 g c = let b = within g.row.COLUMNS g.row.TURN g.row.GROUPS (length c.args.self.now.from.now) c.args.column c.args.group c.args.self.now.is_grid c.requires.column_bound c.requires.group_bound in omega (arith, c.args.self.now.below_65536)
-
-pub overflow_add-first-in-loop-t : goal.overflow_add-first-in-loop-t
-overflow_add-first-in-loop-t g c = let b = within g.row.COLUMNS g.row.TURN g.row.GROUPS (length c.args.self.now.from.now) c.args.column c.args.group c.args.self.now.is_grid c.requires.column_bound c.requires.group_bound in omega (arith, c.args.self.now.below_65536)
 
 pub bounds-from-origin : goal.bounds-from-origin
 bounds-from-origin g c =
@@ -54,10 +42,3 @@ loop-t-preserved g c before =
     let next : first + c.loop-t.t + 1 ≡ first + (c.loop-t.t + 1) = omega arith in
     subst (λ (m : ℕ). Moved back g.row.COLUMNS g.row.TURN from (set c.loop-t.to c.ends-origin.result.1 x) m) next
     (moved_more back g.row.COLUMNS g.row.TURN g.row.GROUPS from grid c.loop-t.to c.ends-origin.result.1 (first + c.loop-t.t) x (omega arith) (omega (arith, b.fits)) e.to_target read (c.loop-t.invariant before))
-
-pub returns : goal.returns
-returns g c before =
-    let q = g.row.GROUPS * c.args.column + c.args.group in
-    let all : c.loop-t.t ≡ g.row.TURN = omega arith in
-    let e : g.row.TURN * q + c.loop-t.t ≡ g.row.TURN * (q + 1) = let p : suc q ≡ q + 1 = omega arith in omega (arith, all, mul-suc g.row.TURN q, ap (λ (z : ℕ). g.row.TURN * z) p) in
-    subst (λ (m : ℕ). Moved (flag g.row.BACK) g.row.COLUMNS g.row.TURN c.args.self.now.from.now c.loop-t.to m) e (c.loop-t.invariant before)
