@@ -2,7 +2,21 @@
 use crate::failure::Failure;
 use crate::message::{Message, each_symbol};
 use crate::recording::Line;
+use std::fmt;
 use worked::annex_g::{MESSAGE, RATE, SEED};
+
+// Bytes as lower-case hex. (Printed as one value: each call of `print!` is a write of its own.)
+#[derive(Clone, Copy)]
+struct Hex<'a>(&'a [u8]);
+
+impl fmt::Display for Hex<'_> {
+    fn fmt<W: fmt::Write>(&self, f: &mut fmt::Formatter<W>) -> fmt::Result {
+        for byte in self.0 {
+            write!(f, "{byte:02x}")?;
+        }
+        Ok(())
+    }
+}
 
 pub fn run(rt: &HostRuntime) -> Result<(), Failure> {
     let message = Message {
@@ -11,11 +25,7 @@ pub fn run(rt: &HostRuntime) -> Result<(), Failure> {
         bytes: MESSAGE,
     };
     println!(rt; "example: the message of Annex G, {} bytes", MESSAGE.len())?;
-    print!(rt; "bytes ")?;
-    for byte in MESSAGE {
-        print!(rt; "{byte:02x}")?;
-    }
-    println!(rt)?;
+    println!(rt; "bytes {}", Hex(MESSAGE))?;
     let mut sending = message.sending()?;
     let total = message.announce(rt)?;
     each_symbol(&mut sending, total, |n, symbol| {

@@ -5,6 +5,20 @@ use frame::header::Header;
 use frame::rate::Rate;
 use phy::fault::SendFault;
 use phy::sending::Sending;
+use std::fmt;
+
+// Bits as a row of 0 and 1. (Printed as one value: each call of `print!` is a write of its own.)
+#[derive(Clone, Copy)]
+struct Bits<'a>(&'a [bool]);
+
+impl fmt::Display for Bits<'_> {
+    fn fmt<W: fmt::Write>(&self, f: &mut fmt::Formatter<W>) -> fmt::Result {
+        for bit in self.0 {
+            f.write_str(if *bit { "1" } else { "0" })?;
+        }
+        Ok(())
+    }
+}
 
 // What a sending is made from.
 #[derive(Clone, Copy)]
@@ -38,11 +52,7 @@ impl<'a> Message<'a> {
             header.length,
             header.pad_count()
         )?;
-        print!(rt; "header bits=")?;
-        for bit in header.bits() {
-            print!(rt; "{}", u8::from(bit))?;
-        }
-        println!(rt)?;
+        println!(rt; "header bits={}", Bits(&header.bits()))?;
         Ok(symbols.saturating_add(1))
     }
 }

@@ -38,9 +38,11 @@ impl Header {
     pub fn bits(self) -> [bool; 24]
         ensures { result ≡ header self.rate self.length }
     {
+        // made before the row that they go into: made within it, the compiler works on single bits, for twice as long
+        let length_bits = twelve_bits(self.length);
         let mut bits = [false; 24];
         bits[0..4].copy_from_slice(&self.rate.bits());
-        bits[5..17].copy_from_slice(&twelve_bits(self.length));
+        bits[5..17].copy_from_slice(&length_bits);
         bits[17] = odd_ones(&bits[0..17]);
         bits
     }

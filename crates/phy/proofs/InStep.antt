@@ -20,13 +20,13 @@ use Rattle.phy.proofs.Shapes.{regular}
 use Rattle.phy.proofs.Slices.{sliced_frame}
 
 -- before the header the scrambler holds the seed and the coder zeros
-pub starts : (r : Rate) (seed : ℕ) (octets : List ℕ) → InStep (unwritten r seed octets) seed 0
+pub starts : (r : Rate) (seed : ℕ) (octets : List ℕ) (state : ℕ) → state ≡ 0 → InStep (unwritten r seed octets) seed state
 unfolding register_after
-starts r seed octets =
+starts r seed octets state zeros =
     let none : 0 ≡ (0 - 1) * n_dbps (shape r) = omega arith in
     record {
       keyed = ap (register_after seed) none;
-      held = ap (λ (z : ℕ). state_from 0 (data_bits seed octets 0 z)) none;
+      held = zeros ∙ ap (λ (z : ℕ). state_from 0 (data_bits seed octets 0 z)) none;
     }
 
 -- data symbol k, from the register and the state before it

@@ -14,6 +14,8 @@ use frame::header::Header;
 use frame::rate::Rate;
 use std::marker::Model;
 
+pub mod calls;
+
 const LAST_SEED: u32 = 127;
 
 const MOST_BYTES: usize = 4095;
