@@ -16,7 +16,7 @@ use Rattle.frame.specs.Streaming.{Masked, bits_under}
 use Rattle.frame.proofs.Keys.{register_on}
 use Rattle.frame.proofs.Parts.{part_before, part_within}
 use borrow.Rule.Slice.PartMut.{put_mid}
-use Rattle.frame.specs.Data.{steps, symbols, plain_bit, in_tail, scrambled_bit, data_bit, data_bits}
+use Rattle.frame.specs.Data.{steps, symbols, pads, plain_bit, in_tail, scrambled_bit, data_bit, data_bits}
 
 pub plain_before : (octets : List ℕ) (n : ℕ) → n < 16 → false ≡ plain_bit octets n
 unfolding plain_bit
@@ -86,6 +86,10 @@ symbols_are r len n d e f =
     let low : n * d ≤ x + (d - 1) = omega (arith, ap (λ (z : ℕ). z * d) f, times.1) in
     let high : x + (d - 1) < (n + 1) * d = omega (arith, ap (λ (z : ℕ). z * d) f, times.0, add-mul n 1 d) in
     sym (div-eq_of_lt-le d low high) ∙ ap (λ (z : ℕ). (x + (z - 1)) / z) e
+
+pub pads_are : (r : Rate) (len n d taken : ℕ) → n ≡ symbols (shape r) len → d ≡ n_dbps (shape r) → taken ≡ steps len → n * d - taken ≡ pads (shape r) len
+unfolding pads
+pads_are r len n d taken e f g = ap₂ (λ (x : ℕ) (y : ℕ). x * y - taken) e f ∙ ap (λ (z : ℕ). symbols (shape r) len * n_dbps (shape r) - z) g
 
 pub symbols_few : (r : Rate) (len : ℕ) → len ≤ 4095 → symbols (shape r) len < 40000
 symbols_few r len h =

@@ -1,7 +1,5 @@
-use Rattle.std.proofs.Common.{ℕ, ◌-◌, ◌*◌, ap, ◌∙◌, ap₂, arith}
-use Rattle.frame.specs.Rate.{shape, n_dbps}
-use Rattle.frame.specs.Data.{symbols, pads}
-use Rattle.frame.proofs.DataBits.{Full, full}
+use Rattle.std.proofs.Common.{rules, arith}
+use Rattle.frame.proofs.DataBits.{Full, full, pads_are}
 use Rattle.frame.proofs.header.Header.pad_count.Goals as goal
 
 pub overflow_mul-result : goal.overflow_mul-result
@@ -12,8 +10,8 @@ overflow_mul-result c =
 pub overflow_sub-result : goal.overflow_sub-result
 overflow_sub-result c =
     let f = full c.args.self.rate c.args.self.length c.symbol_count.result c.n_dbps.result c.symbol_count.ensures c.n_dbps.ensures in
-    omega (arith, f.enough, c.steps.ensures)
+    grind (arith, f.enough)
 
+-- by search, so that whatever is taken away is asked to be the steps
 pub returns : goal.returns
-unfolding pads
-returns c = ap₂ (λ (n : ℕ) (d : ℕ). n * d - c.steps.result) c.symbol_count.ensures c.n_dbps.ensures ∙ ap (λ (z : ℕ). symbols (shape c.args.self.rate) c.args.self.length * n_dbps (shape c.args.self.rate) - z) c.steps.ensures
+returns c = search (rules, pads_are c.args.self.rate c.args.self.length c.symbol_count.result c.n_dbps.result)
